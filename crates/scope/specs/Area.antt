@@ -1,0 +1,51 @@
+-- The area of a ring, the points that words hold, and what number 11 refuses of a ring's words. Assumes nothing.
+use Prim.Native.Nat.{ℕ, zero, suc, _*_, _/_, _%_}
+use mathlib.Core.Bool.{Bool, true, false, _||_}
+use mathlib.Core.List.{List, [], _∷_}
+use lib.Dec.{ltb, eqb}
+use lib.IntN.{ℤ, pos, negsuc, _+ℤ_, _-ℤ_}
+use lib.ListN.{length}
+use Rattle.scope.specs.Limits.{coordinateLimit, pointLimit}
+use Rattle.scope.specs.Cells.{Point}
+use Rattle.scope.specs.Stitching.{Line}
+
+-- words are X, Y, X, Y, and so on
+unfoldable pub points : List ℕ → Line
+points [] = []
+points (x ∷ []) = []
+points (x ∷ y ∷ ws) = record { x = x; y = y } ∷ points ws
+
+-- y(i-1)·x(i) - x(i-1)·y(i)
+unfoldable pub twist : Point → Point → ℤ
+twist p q = pos (p .y * q .x) -ℤ pos (p .x * q .y)
+
+-- the sum over the points, each with the one before it; p stands before the first
+unfoldable pub twists : Point → Line → ℤ
+twists p [] = pos 0
+twists p (q ∷ l) = twist p q +ℤ twists q l
+
+unfoldable pub lastOf : Point → Line → Point
+lastOf p [] = p
+lastOf p (q ∷ l) = lastOf q l
+
+-- the last point standing before the first
+unfoldable pub area : Line → ℤ
+area [] = pos 0
+area (p ∷ l) = twists (lastOf p l) (p ∷ l)
+
+-- above 0 is a polygon, otherwise a hole
+unfoldable pub positive : ℤ → Bool
+positive (pos n) = ltb 0 n
+positive (negsuc n) = false
+
+unfoldable pub anyAbove : ℕ → List ℕ → Bool
+anyAbove limit [] = false
+anyAbove limit (w ∷ ws) = ltb limit w || anyAbove limit ws
+
+-- an odd word count, too many points, or a coordinate above the limit
+unfoldable pub faultyWords : List ℕ → Bool
+faultyWords ws = eqb (length ws % 2) 1 || ltb pointLimit (length ws / 2) || anyAbove coordinateLimit ws
+
+-- what `area` refuses with 11
+unfoldable pub areaRefused : List ℕ → Bool
+areaRefused ws = eqb (length ws) 0 || faultyWords ws

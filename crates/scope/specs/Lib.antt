@@ -1,0 +1,14 @@
+-- Document 01 as definitions, one file a section, in its order and words. Every contract of the library cites these files and nothing else.
+pub mod Limits
+pub mod Terrain
+pub mod Cells
+pub mod Stitching
+pub mod Drawing
+pub mod Pairs
+pub mod Area
+pub mod Containment
+pub mod Contour
+pub mod Band
+pub mod Smoothing
+pub mod Room
+pub mod Dozen
