@@ -10,15 +10,18 @@ differ true false = 1
 differ false true = 1
 differ false false = 0
 
+-- the sum of f over k numbers from i on
+unfoldable pub sumFrom : (ℕ → ℕ) → ℕ → ℕ → ℕ
+sumFrom f i zero = 0
+sumFrom f i (suc k) = f i + sumFrom f (suc i) k
+
 -- of k pairs of neighbours in row r of the sheet, the first at columns c and c + 1, those that differ
 unfoldable pub pairsAlong : Sheet → ℕ → ℕ → ℕ → ℕ
-pairsAlong A r c zero = 0
-pairsAlong A r c (suc k) = differ (A c r) (A (suc c) r) + pairsAlong A r (suc c) k
+pairsAlong A r c k = sumFrom (λ i. differ (A i r) (A (suc i) r)) c k
 
 -- of k pairs of one sample in row r and the one below it, the first in column c, those that differ
 unfoldable pub pairsBetween : Sheet → ℕ → ℕ → ℕ → ℕ
-pairsBetween A r c zero = 0
-pairsBetween A r c (suc k) = differ (A c r) (A c (suc r)) + pairsBetween A r (suc c) k
+pairsBetween A r c k = sumFrom (λ i. differ (A i r) (A i (suc r))) c k
 
 -- the pairs that a finished and an unfinished cell share after c cells of row r: the lower pairs of that row's finished cells, the pair between
 -- the last finished cell and the next, and the upper pairs of the cells to come

@@ -1,0 +1,5 @@
+-- What the proofs of this crate share, and in `Laws` what its callers cite.
+pub mod Changes
+pub mod Laws
+pub mod Numbers
+pub mod Table

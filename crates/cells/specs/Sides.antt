@@ -1,0 +1,19 @@
+-- The number of each side of a cell in the code, and the strokes of the case table by these numbers. Assumes nothing.
+use Prim.Native.Nat.{ℕ}
+use lib.ListN.{getD}
+use Rattle.scope.specs.Cells.{Side, Left, Right, Top, Bottom, _⟶_, drawn}
+use Rattle.scope.specs.Cells as cells
+use Rattle.cells.specs.declared.Stroke.{Stroke}
+
+abbrev pub sideNumber : Side → ℕ
+sideNumber Left = 0
+sideNumber Right = 1
+sideNumber Top = 2
+sideNumber Bottom = 3
+
+abbrev pub numbered : cells.Stroke → Stroke
+numbered (s ⟶ e) = record { from = sideNumber s; to = sideNumber e }
+
+-- stroke k of a cell, and where the cell draws no stroke k, the stroke from Left to Left, which no cell draws
+unfoldable pub strokeAt : ℕ → ℕ → cells.Stroke
+strokeAt number k = getD (drawn number) k (Left ⟶ Left)
