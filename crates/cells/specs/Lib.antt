@@ -1,2 +1,2 @@
--- What the code of this crate has beside document 01's definitions: the numbers of a cell's sides, and the table's entries by them.
+-- What the code of this crate has beside document 01's definitions: the table's entries by the numbers of their sides.
 pub mod Sides

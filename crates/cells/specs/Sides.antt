@@ -1,15 +1,9 @@
--- The number of each side of a cell in the code, and the strokes of the case table by these numbers. Assumes nothing.
+-- The strokes of the case table by the numbers of their sides. Assumes nothing.
 use Prim.Native.Nat.{ℕ}
 use lib.ListN.{getD}
-use Rattle.scope.specs.Cells.{Side, Left, Right, Top, Bottom, _⟶_, drawn}
+use Rattle.scope.specs.Cells.{Left, _⟶_, sideNumber, drawn}
 use Rattle.scope.specs.Cells as cells
 use Rattle.cells.specs.declared.Stroke.{Stroke}
-
-abbrev pub sideNumber : Side → ℕ
-sideNumber Left = 0
-sideNumber Right = 1
-sideNumber Top = 2
-sideNumber Bottom = 3
 
 abbrev pub numbered : cells.Stroke → Stroke
 numbered (s ⟶ e) = record { from = sideNumber s; to = sideNumber e }

@@ -7,7 +7,7 @@ use Prim.Native.Nat.{ℕ, zero, suc, _+_, _*_, _≤_, _<_}
 use lib.Dec.{eqb}
 use lib.ListN.{length}
 use borrow.Author.Tests.{eqb-true, eq-eqb}
-use Rattle.scope.specs.Cells.{Side, Left, Right, Top, Bottom, Stroke, _⟶_, numberOf, caseTable, drawn, met, onFinished, opened, closed}
+use Rattle.scope.specs.Cells.{Side, Left, Right, Top, Bottom, sideNumber, Stroke, _⟶_, numberOf, caseTable, drawn, met, onFinished, opened, closed}
 use Rattle.scope.specs.Pairs.{differ}
 use Rattle.laws.proofs.Ends.{and-left, and-right}
 use Rattle.laws.proofs.Edges.{ending, beginning}
@@ -29,12 +29,6 @@ every-cell test h a b c d =
     (either-one (λ a. both (λ b. both (λ c. both (λ d. test a b c d)))) h a) b) c) d
 
 -- equality of sides as a test
-abbrev pub sideNumber : Side → ℕ
-sideNumber Left = 0
-sideNumber Right = 1
-sideNumber Top = 2
-sideNumber Bottom = 3
-
 abbrev pub sameSide : Side → Side → Bool
 sameSide d e = eqb (sideNumber d) (sideNumber e)
 

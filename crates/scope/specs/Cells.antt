@@ -32,6 +32,13 @@ samePoint p q = eqb (p .x) (q .x) && eqb (p .y) (q .y)
 pub data Side : Type 0 where
   Left Right Top Bottom : Side
 
+-- the sides by number, as the code's case table holds them
+abbrev pub sideNumber : Side → ℕ
+sideNumber Left = 0
+sideNumber Right = 1
+sideNumber Top = 2
+sideNumber Bottom = 3
+
 unfoldable pub pointOf : ℕ → ℕ → Side → Point
 pointOf c r Left = record { x = 2 * c - 1; y = 2 * r }
 pointOf c r Right = record { x = 2 * c + 1; y = 2 * r }
