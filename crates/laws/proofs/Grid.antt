@@ -42,7 +42,7 @@ module _ (A : Sheet) {dx dy : ℕ} (out : Outside A dx dy) where
       strokes-drawn A out c r (drawn (cellNumber A c r)) (segmentsAfter A dx r c) (λ role. onSide role A c r) sound (ready c r inside sound)
       (strokes-fit (A c (suc r)) (A (suc c) (suc r)) (A (suc c) r) (A c r))
 
-  more-segments : (r c : ℕ) → length (segmentsAfter A dx r (suc c)) ≡ length (segmentsAfter A dx r c) + length (drawn (cellNumber A c r))
+  pub more-segments : (r c : ℕ) → length (segmentsAfter A dx r (suc c)) ≡ length (segmentsAfter A dx r c) + length (drawn (cellNumber A c r))
   unfolding segmentsAfter upTo along withCell cellSegments
   more-segments r c = omega (arith, length-append (segmentsAfter A dx r c) (cellSegments A c r), length-map (drawn (cellNumber A c r)) (placed c r))
 

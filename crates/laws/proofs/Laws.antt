@@ -21,7 +21,7 @@ use Rattle.laws.proofs.Strokes.{finish}
 use Rattle.laws.proofs.Marks.{marked}
 use Rattle.laws.proofs.Cellwise.{openCount}
 use Rattle.laws.proofs.Sums.{sum-nothing, sum-at-most}
-use Rattle.laws.proofs.Grid.{After, after, one-cell}
+use Rattle.laws.proofs.Grid.{After, after, one-cell, more-segments}
 use Rattle.laws.proofs.Rings.{RingLaw, fault, cell-good, all-none, ring-laws}
 use Rattle.laws.proofs.Peak.{peak-at-most, peak-is-highest, peak-is-reached}
 
@@ -98,6 +98,9 @@ module _ (A : Sheet) {dx dy : ℕ} (out : Outside A dx dy) where
   unfolding opened closed
   open-lines-change-by-the-table r c h =
       omega (arith, one-cell A out r c h (after A out r c (omega arith) .sound) .1, count-is-length r c, count-is-length r (suc c))
+
+  pub segments-change-by-the-table : (r c : ℕ) → length (segmentsAfter A dx r (suc c)) ≡ length (segmentsAfter A dx r c) + length (drawn (cellNumber A c r))
+  segments-change-by-the-table r c = more-segments A out r c
 
   -- ---- 2. after the last cell no line is open
 
