@@ -29,6 +29,6 @@ cutsAbove ll lr ur ul [] = true
 cutsAbove ll lr ur ul ((s ⟶ e) ∷ strokes) = corner ll lr ur ul s e && cutsAbove ll lr ur ul strokes
 
 pub saddles-cut-off-what-is-above :
-  (cutsAbove true false true false (drawn (numberOf true false true false)) ≡ true) × (cutsAbove false true false true (drawn (numberOf false true false true)) ≡ true)
+    (cutsAbove true false true false (drawn (numberOf true false true false)) ≡ true) × (cutsAbove false true false true (drawn (numberOf false true false true)) ≡ true)
 unfolding cutsAbove corner drawn caseTable numberOf
 saddles-cut-off-what-is-above = (refl, refl)
