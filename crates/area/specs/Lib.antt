@@ -1,0 +1,2 @@
+-- What `area` and `contains` answer, as functions of their words.
+pub mod Answers

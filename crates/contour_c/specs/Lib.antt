@@ -1,0 +1,2 @@
+-- What the entries for C return, as functions of what they are passed.
+pub mod Entries
