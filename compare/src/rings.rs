@@ -1,0 +1,133 @@
+//! Terrains, and the rings that the crate itself draws on them.
+
+use crate::oracle::doubled;
+use crate::random::Random;
+use crate::Pt;
+
+/// A terrain of dx columns and dy rows, and the threshold to draw it at.
+pub struct Grid {
+    pub dx: usize,
+    pub dy: usize,
+    pub values: Vec<f64>,
+    pub threshold: f64,
+}
+
+/// A ring as the crate gives it, and its doubled whole coordinates.
+pub struct Ring {
+    pub points: Vec<Pt>,
+    pub words: Vec<u16>,
+}
+
+impl Grid {
+    /// The crate's rings of this terrain, in its order.
+    pub fn rings(&self) -> Vec<Ring> {
+        let drawn = contour::contour_rings(&self.values, self.threshold, self.dx, self.dy);
+        let drawn = drawn.expect("the crate draws every grid with all its values");
+        drawn
+            .into_iter()
+            .map(|points| Ring {
+                words: doubled(&points),
+                points,
+            })
+            .collect()
+    }
+}
+
+/// Every shape of up to `samples` samples with every choice of two values.
+pub fn small_grids(samples: usize) -> impl Iterator<Item = Grid> {
+    let shapes = (1..=samples).flat_map(move |dx| (1..=samples / dx).map(move |dy| (dx, dy)));
+    shapes.flat_map(|(dx, dy)| (0..1u32 << (dx * dy)).map(move |choice| two_valued(dx, dy, choice)))
+}
+
+/// Sample k is 1 where bit k of the choice is set, else 0.
+fn two_valued(dx: usize, dy: usize, choice: u32) -> Grid {
+    let values = (0..dx * dy).map(|k| f64::from(choice >> k & 1)).collect();
+    Grid {
+        dx,
+        dy,
+        values,
+        threshold: 1.0,
+    }
+}
+
+/// A random terrain of this shape, of one of five characters.
+pub fn random_grid(random: &mut Random, dx: usize, dy: usize) -> Grid {
+    let values = match random.below(5) {
+        0 => speckled(random, dx * dy),
+        1 => (0..dx * dy).map(|_| random.below(5) as f64).collect(),
+        2 => strange(random, dx * dy),
+        3 => circles(random, dx, dy),
+        _ => plateaus(random, dx, dy),
+    };
+    let threshold = random_threshold(random, &values);
+    Grid {
+        dx,
+        dy,
+        values,
+        threshold,
+    }
+}
+
+/// Zeros and ones, from nearly all zeros to nearly all ones.
+fn speckled(random: &mut Random, count: usize) -> Vec<f64> {
+    let share = random.between(1, 15);
+    (0..count)
+        .map(|_| f64::from(u8::from(random.below(16) < share)))
+        .collect()
+}
+
+/// NaN, infinities, both zeros, tiny and huge numbers among plain ones.
+fn strange(random: &mut Random, count: usize) -> Vec<f64> {
+    const VALUES: [f64; 12] = [
+        f64::NAN,
+        f64::INFINITY,
+        f64::NEG_INFINITY,
+        0.0,
+        -0.0,
+        1.0,
+        1.0,
+        -1.0,
+        f64::MIN_POSITIVE,
+        5e-324,
+        f64::MAX,
+        f64::MIN,
+    ];
+    (0..count).map(|_| random.pick(&VALUES)).collect()
+}
+
+/// Circles about some centres, which nest polygons and holes.
+fn circles(random: &mut Random, dx: usize, dy: usize) -> Vec<f64> {
+    let centres: Vec<_> = (0..random.between(1, 4))
+        .map(|_| (random.below(dx), random.below(dy)))
+        .collect();
+    let width = random.between(2, 40);
+    let height = |x: usize, y: usize| {
+        let away = centres
+            .iter()
+            .map(|&(a, b)| x.abs_diff(a).pow(2) + y.abs_diff(b).pow(2));
+        (away.min().unwrap_or(0) / width % 3) as f64
+    };
+    (0..dx * dy).map(|k| height(k % dx, k / dx)).collect()
+}
+
+/// Blocks of equal neighbours.
+fn plateaus(random: &mut Random, dx: usize, dy: usize) -> Vec<f64> {
+    let (across, down) = (random.between(1, 6), random.between(1, 6));
+    let blocks_across = dx / across + 1;
+    let heights: Vec<f64> = (0..blocks_across * (dy / down + 1))
+        .map(|_| random.below(4) as f64 / 2.0)
+        .collect();
+    (0..dx * dy)
+        .map(|k| heights[k / dx / down * blocks_across + k % dx / across])
+        .collect()
+}
+
+/// Mostly the value of some sample, sometimes one between values or a strange one.
+fn random_threshold(random: &mut Random, values: &[f64]) -> f64 {
+    match random.below(24) {
+        0 => strange(random, 1)[0],
+        1..=4 => 0.5,
+        5..=8 => 1.0,
+        _ => random.pick(values),
+    }
+}

@@ -1,0 +1,87 @@
+//! Counting and reporting. Each comparison with our library goes through `Tally::same`.
+
+use crate::ffi::Answer;
+
+/// How many differences are described; the rest are only counted.
+const DESCRIBED: u64 = 10;
+/// How many points of a list a description shows.
+const POINTS_SHOWN: usize = 40;
+
+#[derive(Default)]
+pub struct Tally {
+    compared: u64,
+    differ: u64,
+    float_asked: u64,
+    float_differs: u64,
+}
+
+impl Tally {
+    /// One comparison: what a call had to answer, what it did, and the call in words.
+    pub fn same(&mut self, expected: Answer, got: Answer, call: impl FnOnce() -> String) {
+        self.compared += 1;
+        if got != expected {
+            self.differ += 1;
+            if self.differ <= DESCRIBED {
+                println!("differs: {}: expected {expected}, got {got}", call());
+            }
+        }
+    }
+
+    /// How the crate's float test fares against the exact one on slopes that no cell draws. Document 01
+    /// allows a difference there, so it is told and not counted.
+    pub fn float_test(&mut self, exact: Answer, floats: Answer) {
+        self.float_asked += 1;
+        self.float_differs += u64::from(exact != floats);
+    }
+
+    /// Runs one part of the comparison and says how much it compared.
+    pub fn part(&mut self, name: &str, compare: impl FnOnce(&mut Tally)) {
+        let (compared, differ) = (self.compared, self.differ);
+        compare(self);
+        let (compared, differ) = (self.compared - compared, self.differ - differ);
+        println!("{name}: {compared} compared, {differ} differ");
+    }
+
+    /// Prints the closing lines; true when something was compared and nothing differs.
+    pub fn close(&self) -> bool {
+        println!(
+            "not counted: on slopes that no cell draws the crate's float test differs from the exact \
+             one in {} of {} calls",
+            self.float_differs, self.float_asked
+        );
+        println!("{} compared, {} differ", self.compared, self.differ);
+        self.compared > 0 && self.differ == 0
+    }
+}
+
+/// A call of `area` in words.
+pub fn area_call(ring: &[u16]) -> String {
+    format!("area of {}", listed(ring))
+}
+
+/// A call of `contains` in words.
+pub fn contains_call(outer: &[u16], tested: &[u16]) -> String {
+    format!(
+        "contains, outer {}, tested {}",
+        listed(outer),
+        listed(tested)
+    )
+}
+
+fn listed(words: &[u16]) -> String {
+    let mut text: String = words
+        .chunks(2)
+        .take(POINTS_SHOWN)
+        .map(|p| match p {
+            [x, y] => format!("({x},{y})"),
+            rest => format!("({},", rest[0]),
+        })
+        .collect();
+    if words.is_empty() {
+        text.push_str("nothing");
+    }
+    if words.len() > 2 * POINTS_SHOWN {
+        text.push_str(&format!(" and so on, {} words in all", words.len()));
+    }
+    text
+}
