@@ -12,5 +12,6 @@ pub mod Cellwise
 pub mod Sums
 pub mod Grid
 pub mod Rings
+pub mod Frontier
 pub mod Peak
 pub mod Laws

@@ -48,13 +48,21 @@ point-of-stroke begin c r (s ⟶ e) = refl
 point-of-stroke finish c r (s ⟶ e) = refl
 
 -- the same pair seen from the cell before
-across-left : (role : Role) (A : Sheet) (c r : ℕ) → onSide role A (suc c) r Left ≡ onSide (other role) A c r Right
+pub across-left : (role : Role) (A : Sheet) (c r : ℕ) → onSide role A (suc c) r Left ≡ onSide (other role) A c r Right
 across-left begin A c r = refl
 across-left finish A c r = refl
 
-across-top : (role : Role) (A : Sheet) (c r : ℕ) → onSide role A c (suc r) Top ≡ onSide (other role) A c r Bottom
+pub across-top : (role : Role) (A : Sheet) (c r : ℕ) → onSide role A c (suc r) Top ≡ onSide (other role) A c r Bottom
 across-top begin A c r = refl
 across-top finish A c r = refl
+
+pub across-right : (role : Role) (A : Sheet) (c r : ℕ) → onSide role A c r Right ≡ onSide (other role) A (suc c) r Left
+across-right begin A c r = refl
+across-right finish A c r = refl
+
+pub across-bottom : (role : Role) (A : Sheet) (c r : ℕ) → onSide role A c r Bottom ≡ onSide (other role) A c (suc r) Top
+across-bottom begin A c r = refl
+across-bottom finish A c r = refl
 
 elsewhere : (role : Role) (p : Point) (c r : ℕ) (free : Role → Side → Bool) (strokes : List Stroke) → fitting free strokes ≡ true
     → ((d : Side) → free role d ≡ true → samePoint p (pointOf c r d) ≡ false) → marked role (map (placed c r) strokes) p ≡ 0
@@ -104,7 +112,7 @@ module _ (A : Sheet) {dx dy : ℕ} (out : Outside A dx dy) where
   home-here begin c r d h = beginning-homes A out c r d h .start-home
   home-here finish c r d h = ending-homes A out c r d h .end-home
 
-  home-there : (role : Role) (c r : ℕ) (d : Side) → onSide role A c r d ≡ true → homeOf (other role) A (pointOf c r d) ≡ neighbour c r d
+  pub home-there : (role : Role) (c r : ℕ) (d : Side) → onSide role A c r d ≡ true → homeOf (other role) A (pointOf c r d) ≡ neighbour c r d
   home-there begin c r d h = beginning-homes A out c r d h .end-home
   home-there finish c r d h = ending-homes A out c r d h .start-home
 
@@ -117,20 +125,20 @@ module _ (A : Sheet) {dx dy : ℕ} (out : Outside A dx dy) where
       away (sym (ap (λ (k : Cell). k .column) (ap (homeOf role A) q ∙ home-here role c r d h)))
       (sym (ap (λ (k : Cell). k .row) (ap (homeOf role A) q ∙ home-here role c r d h)))))
 
-  measure : Role → Point → Segment → ℕ
+  unfoldable pub measure : Role → Point → Segment → ℕ
   measure role p σ = same p (pointBy role σ)
 
-  only-there : (role : Role) (p : Point) (k : Cell) → homeOf role A p ≡ k → (c r : ℕ) → c ≤ dx → (c ≡ k .column → r ≡ k .row → ⊥) → total (measure role p) (cellSegments A c r) ≡ 0
+  pub only-there : (role : Role) (p : Point) (k : Cell) → homeOf role A p ≡ k → (c r : ℕ) → c ≤ dx → (c ≡ k .column → r ≡ k .row → ⊥) → total (measure role p) (cellSegments A c r) ≡ 0
   unfolding measure marked
   only-there role p k q c r h away =
       only-home role p c r (λ e f. away (e ∙ ap (λ (m : Cell). m .column) q) (f ∙ ap (λ (m : Cell). m .row) q))
 
-  marked-by : (role : Role) (p : Point) (σs : List Segment) → marked role σs p ≡ total (measure role p) σs
+  pub marked-by : (role : Role) (p : Point) (σs : List Segment) → marked role σs p ≡ total (measure role p) σs
   unfolding measure marked
   marked-by role p σs = refl
 
   -- in the cell itself some stroke has the point in the role that the samples say
-  in-cell : (role : Role) (c r : ℕ) (d : Side) → onSide role A c r d ≡ true → 1 ≤ marked role (cellSegments A c r) (pointOf c r d)
+  pub in-cell : (role : Role) (c r : ℕ) (d : Side) → onSide role A c r d ≡ true → 1 ≤ marked role (cellSegments A c r) (pointOf c r d)
   unfolding cellSegments cellNumber
   in-cell role c r d h = at-least-one role c r d (drawn (cellNumber A c r)) (present role d (A c (suc r)) (A (suc c) (suc r)) (A (suc c) r) (A c r) h)
 

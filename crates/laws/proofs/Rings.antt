@@ -108,7 +108,7 @@ fault A dx dy p q = when 1 (not (goodTest A dx dy p q))
 
 module _ (A : Sheet) {dx dy : ℕ} (out : Outside A dx dy) where
   -- where a sample of the cell's right column is above, that column is in the grid; likewise its lower row
-  in-columns : (c r : ℕ) → A c r ≡ true → c ≤ dx
+  pub in-columns : (c r : ℕ) → A c r ≡ true → c ≤ dx
   in-columns c r h = by (decLe c dx)
     where
       by : Dec (c ≤ dx) → c ≤ dx

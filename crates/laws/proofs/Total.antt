@@ -43,7 +43,7 @@ module _ {X : Type 0} (w : X → ℕ) where
   total-take (x ∷ y ∷ xs) (suc n) d h = omega (arith, total-take (y ∷ xs) n d (suc-inj h))
 
   -- a line that goes takes its own measure with it, whichever line moves into its place
-  total-moved : (xs : List X) (n i : ℕ) (d : X) → length xs ≡ suc n → i < length xs → total (take n (set xs i (getD xs n d))) + w (getD xs i d) ≡ total xs
+  pub total-moved : (xs : List X) (n i : ℕ) (d : X) → length xs ≡ suc n → i < length xs → total (take n (set xs i (getD xs n d))) + w (getD xs i d) ≡ total xs
   total-moved xs n i d h hi =
       omega (arith, total-take (set xs i (getD xs n d)) n d (length-set xs i (getD xs n d) ∙ h), ap w (moved (ℕ-discrete n i)), total-set xs i (getD xs n d) d hi)
     where

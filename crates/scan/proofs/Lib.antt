@@ -1,0 +1,4 @@
+-- What the proofs of this crate share, and in `Laws` what its callers cite.
+pub mod Samples
+pub mod Steps
+pub mod Laws
