@@ -31,13 +31,13 @@ pub record Sound (σs : List Segment) : Type 0 where
   pub balanced : Balanced (stitchAll nothing σs) σs
   pub once : (role : Role) (p : Point) → marked role σs p ≤ 1
 
-marked-append : (role : Role) (σs τs : List Segment) (p : Point) → marked role (σs ++ τs) p ≡ marked role σs p + marked role τs p
+pub marked-append : (role : Role) (σs τs : List Segment) (p : Point) → marked role (σs ++ τs) p ≡ marked role σs p + marked role τs p
 unfolding marked
 marked-append role σs τs p = total-append (λ σ. same p (pointBy role σ)) σs τs
 
 -- one more segment
 module _ (σs : List Segment) (σ : Segment) (a b : ℕ) (sound : Sound σs) (fresh : Fresh σs σ a b) where
-  one-more : stitchAll nothing (σs ++ (σ ∷ [])) ≡ stitch (stitchAll nothing σs) σ
+  pub one-more : stitchAll nothing (σs ++ (σ ∷ [])) ≡ stitch (stitchAll nothing σs) σ
   one-more = stitch-append nothing σs (σ ∷ []) ∙ last (stitchAll nothing σs)
     where
       last : (d : Drawing) → stitchAll d (σ ∷ []) ≡ stitch d σ
@@ -54,7 +54,7 @@ module _ (σs : List Segment) (σ : Segment) (a b : ℕ) (sound : Sound σs) (fr
       by true e = unfold marked total in omega (arith, marked-append role σs (σ ∷ []) p, ap (when 1) e, ap (marked role σs) (same-eq p (pointBy role σ) e))
       by false e = unfold marked total in omega (arith, marked-append role σs (σ ∷ []) p, ap (when 1) e, sound .once role p)
 
-  sound-after : Sound (σs ++ (σ ∷ []))
+  pub sound-after : Sound (σs ++ (σ ∷ []))
   sound-after = record {
     balanced = subst (λ (d : Drawing). Balanced d (σs ++ (σ ∷ []))) (sym one-more) (balanced-after (stitchAll nothing σs) σs σ a b (sound .balanced) fresh);
     once = by;
@@ -99,7 +99,7 @@ module _ (A : Sheet) {dx dy : ℕ} (out : Outside A dx dy) (c r : ℕ) where
   at-most-one Bottom = omega arith
 
   module _ (σs : List Segment) (free : Role → Side → Bool) (ready : Ready σs free) (s e : Side) (hs : free begin s ≡ true) (he : free finish e ≡ true) where
-    fresh : Fresh σs (placed c r (s ⟶ e)) (onFinished s) (onFinished e)
+    pub fresh : Fresh σs (placed c r (s ⟶ e)) (onFinished s) (onFinished e)
     unfolding placed
     fresh = record {
       apart = roles-apart begin s e (ready .as-sampled begin s hs) (ready .as-sampled finish e he);
@@ -118,7 +118,7 @@ module _ (A : Sheet) {dx dy : ℕ} (out : Outside A dx dy) (c r : ℕ) where
     more : (role : Role) (p : Point) → marked role (σs ++ (placed c r (s ⟶ e) ∷ [])) p ≡ marked role σs p + same p (pointOf c r (sideBy role (s ⟶ e)))
     more role p = unfold marked total in omega (arith, marked-append role σs (placed c r (s ⟶ e) ∷ []) p, ap (same p) (point-of-stroke role c r (s ⟶ e)))
 
-    ready-after : Ready (σs ++ (placed c r (s ⟶ e) ∷ [])) (leaving free (s ⟶ e))
+    pub ready-after : Ready (σs ++ (placed c r (s ⟶ e) ∷ [])) (leaving free (s ⟶ e))
     ready-after = record {
       as-sampled = λ role d h. ready .as-sampled role d (was-free role d h);
       unmarked-side = λ role d h. omega (arith, more role (pointOf c r d), ready .unmarked-side role d (was-free role d h), ap (when 1) (not-it role d h));

@@ -28,7 +28,7 @@ module _ (A : Sheet) {dx dy : ℕ} (out : Outside A dx dy) where
     pub half-the-pairs : 2 * openCount (segmentsAfter A dx r c) ≡ sharedPairs A dx r c
     pub pairs-met : length (segmentsAfter A dx r c) + openCount (segmentsAfter A dx r c) ≡ pairsOfRows A dx r + pairsBetween A r 0 (suc c) + pairsAlong A (suc r) 0 c
 
-  ready : (c r : ℕ) → c ≤ dx → Sound (segmentsAfter A dx r c) → Ready A out c r (segmentsAfter A dx r c) (λ role. onSide role A c r)
+  pub ready : (c r : ℕ) → c ≤ dx → Sound (segmentsAfter A dx r c) → Ready A out c r (segmentsAfter A dx r c) (λ role. onSide role A c r)
   ready c r inside sound = record {
     as-sampled = λ role d h. h;
     unmarked-side = λ role d h. unmarked A out role c r d inside h;

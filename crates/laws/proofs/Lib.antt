@@ -13,5 +13,7 @@ pub mod Sums
 pub mod Grid
 pub mod Rings
 pub mod Frontier
+pub mod Tips
+pub mod Rules
 pub mod Peak
 pub mod Laws

@@ -34,6 +34,15 @@ module _ {X : Type 0} (w : X → ℕ) where
   total-at (y ∷ xs) zero d h = omega arith
   total-at (y ∷ xs) (suc i) d h = omega (arith, total-at xs i d (le-of-suc-le-suc h))
 
+  -- two places count both
+  pub total-two : (xs : List X) (i j : ℕ) (d : X) → i < length xs → j < length xs → (j ≡ i → ⊥) → w (getD xs i d) + w (getD xs j d) ≤ total xs
+  unfolding total
+  total-two [] i j d hi hj ne = absurd (not-suc-le-zero hi)
+  total-two (x ∷ xs) zero zero d hi hj ne = absurd (ne refl)
+  total-two (x ∷ xs) zero (suc j) d hi hj ne = omega (arith, total-at xs j d (le-of-suc-le-suc hj))
+  total-two (x ∷ xs) (suc i) zero d hi hj ne = omega (arith, total-at xs i d (le-of-suc-le-suc hi))
+  total-two (x ∷ xs) (suc i) (suc j) d hi hj ne = omega (arith, total-two xs i j d (le-of-suc-le-suc hi) (le-of-suc-le-suc hj) (λ e. ne (ap suc e)))
+
   pub total-take : (xs : List X) (n : ℕ) (d : X) → length xs ≡ suc n → total (take n xs) + w (getD xs n d) ≡ total xs
   unfolding total
   total-take [] n d h = absurd (omega arith)

@@ -1,0 +1,136 @@
+-- One stitch of the table machine: the tables hold the drawing after the rule, and every tip that counts is filed. Assumes nothing.
+use mathlib.Core.Path.{_≡_, refl, sym, _∙_, ap, ap₂, subst}
+use mathlib.Core.Bool.{Bool, true, false, cond, false≢true, true≢false}
+use mathlib.Core.List.{List, [], _∷_, _++_}
+use Prim.Native.Nat.{ℕ, zero, suc, _+_, _-_, _*_, _%_, _^_, _≤_, _<_}
+use native.Mathlib.Decide.{ℕ-discrete}
+use native.Mathlib.Omega.{arith}
+use lib.ListN.{length, getD, set, length-set, length-append}
+use lib.Seq.{getD-set-same, getD-set-other}
+use Rattle.scope.specs.Cells.{Point, indexedPoint, samePoint}
+use Rattle.scope.specs.Stitching as rules
+use Rattle.scope.specs.Stitching.{Line, Drawing, startsAt, endsAt, without}
+use Rattle.laws.proofs.Ends.{same-eq, start-of-joined, end-of-joined, end-of-appended, end-of-prepended}
+use Rattle.laws.proofs.Strokes.{Role, begin, finish}
+use Rattle.laws.proofs.Tips.{Tip, tipBy, edgeWord, WordsApart}
+use Rattle.machine.specs.Machine.{mark, wordOf, columnWord, firstLink, lastLink, endPoint, linkCount, linkPoint, withLink, withNext, withSlot, released, Tables, started, appended, prepended, joinedLinks, joinedLines, joined, closedLinks, closed}
+use Rattle.machine.proofs.Views.{slotAt, length-withSlot, length-withNext, length-withLink}
+use Rattle.machine.proofs.Held.{HeldLine, Held}
+use Rattle.machine.proofs.Removal.{dropAt, length-released}
+use Rattle.machine.proofs.Ops.{append-held, prepend-held, start-held, join-held, close-held}
+use Rattle.machine.proofs.Filing.{start-tip, end-tip, starts-is, ends-is, tip-index, word-in-frontier, column-of-even, Filed, Framed, filed-anew, filed-new, filed-left}
+
+-- the tables hold a drawing of n segments; slots for h lines and room for that many links
+pub record Carried (dx h room n : ℕ) (live : Point → Type 0) (d : Drawing) (t : Tables) : Type 0 where
+  pub chains : List (List ℕ)
+  pub loops : List (List ℕ)
+  pub held : Held dx n t d chains loops
+  pub filed : Filed dx live (t .lines) (d .lines)
+  pub lines-long : dx + 2 + 4 * h ≤ length (t .lines)
+  pub links-long : 2 * room ≤ length (t .links)
+
+module _ (dx h room n : ℕ) (live live′ : Point → Type 0) (d : Drawing) (t : Tables) (now : Carried dx h room n live d t) (small : n < room) where
+  pub links-fit : 2 * n + 1 < length (t .links)
+  links-fit = omega (arith, now .links-long)
+
+  pub frontier-fits : dx + 2 ≤ length (t .lines)
+  frontier-fits = omega (arith, now .lines-long)
+
+  pub held-line : (i : ℕ) → i < length (d .lines) → HeldLine dx (t .links) (slotAt dx (t .lines) i) (getD (now .chains) i []) (getD (d .lines) i [])
+  held-line i hi = now .held .lines-held i hi
+
+-- words of held tips
+pub framed-by : (dx n : ℕ) (t : Tables) (d : Drawing) (chains loops : List (List ℕ)) → Held dx n t d chains loops → Framed dx (d .lines)
+framed-by dx n t d chains loops held i hi p tip =
+    let index = tip-index dx (t .links) (slotAt dx (t .lines) i) (getD chains i []) (getD (d .lines) i []) (held .lines-held i hi) p tip in
+    rw (index .1) (word-in-frontier dx (index .0))
+
+-- a tip of a line that grew is the new point or was a tip before
+appended-tips : (s e : Point) (l : Line) → endsAt s l ≡ true → (p : Point) → (p ≡ e → ⊥) → Tip p (l ++ (e ∷ [])) → Tip p l
+appended-tips s e l at p ne tip = by (tip .role) (tip .there)
+  where
+    by : (role : Role) → tipBy role p (l ++ (e ∷ [])) ≡ true → Tip p l
+    by begin h = record { role = begin; there = sym (start-of-joined p s l (e ∷ []) at) ∙ h }
+    by finish h = absurd (ne (same-eq p e (sym (end-of-appended p e l) ∙ h)))
+
+prepended-tips : (s e : Point) (l : Line) → startsAt e l ≡ true → (p : Point) → (p ≡ s → ⊥) → Tip p (s ∷ l) → Tip p l
+prepended-tips s e l at p ne tip = by (tip .role) (tip .there)
+  where
+    by : (role : Role) → tipBy role p (s ∷ l) ≡ true → Tip p l
+    by begin h = absurd (ne (same-eq p s (unfold startsAt in h)))
+    by finish h = record { role = finish; there = sym (end-of-prepended p s e l at) ∙ h }
+
+module _ (dx h room n : ℕ) (live live′ : Point → Type 0) (d : Drawing) (t : Tables) (now : Carried dx h room n live d t) (small : n < room) (s e : ℕ) where
+  module _ (f : ℕ) (hf : f < length (d .lines)) (fits : f < h) where
+    -- ---- append
+    pub append-carried : endsAt (indexedPoint dx s) (getD (d .lines) f []) ≡ true
+      → ((i : ℕ) → i < length (d .lines) → (p : Point) → Tip p (getD (rules.append d f (indexedPoint dx e) .lines) i []) → live′ p → edgeWord dx p ≡ edgeWord dx (indexedPoint dx e) → i ≡ f)
+      → ((i : ℕ) → i < length (d .lines) → (p : Point) → Tip p (getD (rules.append d f (indexedPoint dx e) .lines) i []) → live′ p → (p ≡ indexedPoint dx e → ⊥) → live p)
+      → Carried dx h room (suc n) live′ (rules.append d f (indexedPoint dx e)) (appended dx t n s f e (edgeWord dx (indexedPoint dx e)))
+    append-carried there alone keeps = record {
+        chains = _;
+        loops = now .loops;
+        held = after;
+        filed =
+            unfold rules.append appended in
+            filed-anew dx live live′ (t .lines) (d .lines) f (getD (d .lines) f [] ++ (indexedPoint dx e ∷ [])) (indexedPoint dx e) (firstLink dx (t .lines) f) n e (wordOf (linkCount dx (t .lines) f + 1))
+            hf (frontier-fits dx h room n live live′ d t now small) (now .filed) (framed-by dx (suc n) (appended dx t n s f e (edgeWord dx (indexedPoint dx e))) (rules.append d f (indexedPoint dx e)) _ (now .loops) after)
+            (appended-tips (indexedPoint dx s) (indexedPoint dx e) (getD (d .lines) f []) there) alone keeps;
+        lines-long = unfold appended in simp (length-set, length-withSlot) (now .lines-long);
+        links-long = unfold appended in simp (length-withNext, length-withLink) (now .links-long)
+        }
+      where
+        at-end : indexedPoint dx s ≡ indexedPoint dx (endPoint dx (t .lines) f)
+        at-end = ends-is dx (t .links) (slotAt dx (t .lines) f) (getD (now .chains) f []) (getD (d .lines) f []) (held-line dx h room n live live′ d t now small f hf) (indexedPoint dx s) there
+        after : Held dx (suc n) (appended dx t n s f e (edgeWord dx (indexedPoint dx e))) (rules.append d f (indexedPoint dx e)) (set (now .chains) f (getD (now .chains) f [] ++ (n ∷ []))) (now .loops)
+        after = append-held dx n h t d (now .chains) (now .loops) (now .held) (now .lines-long) (links-fit dx h room n live live′ d t now small) f hf s e (edgeWord dx (indexedPoint dx e)) (word-in-frontier dx e) fits at-end
+
+    -- ---- prepend
+    pub prepend-carried : startsAt (indexedPoint dx e) (getD (d .lines) f []) ≡ true
+      → ((i : ℕ) → i < length (d .lines) → (p : Point) → Tip p (getD (rules.prepend d f (indexedPoint dx s) .lines) i []) → live′ p → edgeWord dx p ≡ edgeWord dx (indexedPoint dx s) → i ≡ f)
+      → ((i : ℕ) → i < length (d .lines) → (p : Point) → Tip p (getD (rules.prepend d f (indexedPoint dx s) .lines) i []) → live′ p → (p ≡ indexedPoint dx s → ⊥) → live p)
+      → Carried dx h room (suc n) live′ (rules.prepend d f (indexedPoint dx s)) (prepended dx t n s f (edgeWord dx (indexedPoint dx s)))
+    prepend-carried there alone keeps = record {
+        chains = _;
+        loops = now .loops;
+        held = after;
+        filed =
+            unfold rules.prepend prepended in
+            filed-anew dx live live′ (t .lines) (d .lines) f (indexedPoint dx s ∷ getD (d .lines) f []) (indexedPoint dx s) n (lastLink dx (t .lines) f) (endPoint dx (t .lines) f) (wordOf (linkCount dx (t .lines) f + 1))
+            hf (frontier-fits dx h room n live live′ d t now small) (now .filed) (framed-by dx (suc n) (prepended dx t n s f (edgeWord dx (indexedPoint dx s))) (rules.prepend d f (indexedPoint dx s)) _ (now .loops) after)
+            (prepended-tips (indexedPoint dx s) (indexedPoint dx e) (getD (d .lines) f []) there) alone keeps;
+        lines-long = unfold prepended in simp (length-set, length-withSlot) (now .lines-long);
+        links-long = unfold prepended in simp length-withLink (now .links-long)
+        }
+      where
+        after : Held dx (suc n) (prepended dx t n s f (edgeWord dx (indexedPoint dx s))) (rules.prepend d f (indexedPoint dx s)) (set (now .chains) f (n ∷ getD (now .chains) f [])) (now .loops)
+        after = prepend-held dx n h t d (now .chains) (now .loops) (now .held) (now .lines-long) (links-fit dx h room n live live′ d t now small) f hf s (edgeWord dx (indexedPoint dx s)) (word-in-frontier dx s) fits
+
+  -- ---- start
+  start-tips : (a b p : Point) → Tip p (a ∷ b ∷ []) → (p ≡ a → ⊥) → p ≡ b
+  start-tips a b p tip ne = by (tip .role) (tip .there)
+    where
+      by : (role : Role) → tipBy role p (a ∷ b ∷ []) ≡ true → p ≡ b
+      by begin h = absurd (ne (same-eq p a (unfold startsAt in h)))
+      by finish h = same-eq p b (unfold endsAt in h)
+
+  pub start-carried : length (d .lines) < h → length (d .lines) + 1 < 2 ^ 32
+    → ((i : ℕ) → i < length (d .lines) → (p : Point) → Tip p (getD (d .lines) i []) → (edgeWord dx p ≡ edgeWord dx (indexedPoint dx s) → ⊥) × (edgeWord dx p ≡ edgeWord dx (indexedPoint dx e) → ⊥))
+    → ((i : ℕ) → i < length (d .lines) → (p : Point) → Tip p (getD (d .lines) i []) → live′ p → live p)
+    → Carried dx h room (suc n) live′ (rules.start d (indexedPoint dx s) (indexedPoint dx e)) (started dx t n s e (edgeWord dx (indexedPoint dx s)) (edgeWord dx (indexedPoint dx e)))
+  start-carried fits fits′ alone keeps = record {
+      chains = _;
+      loops = now .loops;
+      held = after;
+      filed =
+          unfold rules.start started in
+          subst (λ (k : ℕ). Filed dx live′ (set (set (withSlot dx (t .lines) k n n e 1) (edgeWord dx (indexedPoint dx s)) k) (edgeWord dx (indexedPoint dx e)) k) (d .lines ++ ((indexedPoint dx s ∷ indexedPoint dx e ∷ []) ∷ []))) (sym (now .held .count-is))
+          (filed-new dx live live′ (t .lines) (d .lines) (indexedPoint dx s ∷ indexedPoint dx e ∷ []) (indexedPoint dx s) (indexedPoint dx e) n n e 1 (frontier-fits dx h room n live live′ d t now small) (now .filed)
+          (unfold rules.start in framed-by dx (suc n) (started dx t n s e (edgeWord dx (indexedPoint dx s)) (edgeWord dx (indexedPoint dx e))) (rules.start d (indexedPoint dx s) (indexedPoint dx e)) _ (now .loops) after)
+          (start-tips (indexedPoint dx s) (indexedPoint dx e)) alone keeps (word-in-frontier dx s, word-in-frontier dx e));
+      lines-long = unfold started in simp (length-set, length-withSlot) (now .lines-long);
+      links-long = unfold started in simp length-withLink (now .links-long)
+      }
+    where
+      after : Held dx (suc n) (started dx t n s e (edgeWord dx (indexedPoint dx s)) (edgeWord dx (indexedPoint dx e))) (rules.start d (indexedPoint dx s) (indexedPoint dx e)) (now .chains ++ ((n ∷ []) ∷ [])) (now .loops)
+      after = start-held dx n h t d (now .chains) (now .loops) (now .held) (now .lines-long) (links-fit dx h room n live live′ d t now small) s e (edgeWord dx (indexedPoint dx s)) (edgeWord dx (indexedPoint dx e)) (word-in-frontier dx s) (word-in-frontier dx e) fits fits′

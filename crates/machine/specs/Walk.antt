@@ -1,0 +1,33 @@
+-- One walk along the links, from the first link of the first ring, gives the points and the records of all rings in order: a link that holds the mark is the
+-- last of its ring, and holds with it the first link of the next. Assumes nothing.
+use Prim.Native.Nat.{ℕ, zero, suc, _+_, _-_, _*_, _%_, _^_}
+use mathlib.Core.Bool.{Bool, true, false, cond}
+use mathlib.Core.List.{List, [], _∷_, _++_}
+use lib.Dec.{ltb}
+use Rattle.scope.specs.Limits.{noOwner}
+use Rattle.scope.specs.Cells.{indexedPoint}
+use Rattle.machine.specs.Machine.{mark, linkPoint, linkNext}
+
+-- a link's start point as two words
+unfoldable pub pointWords : ℕ → List ℕ → ℕ → List ℕ
+pointWords dx links k = indexedPoint dx (linkPoint links k) .x % 2 ^ 16 ∷ indexedPoint dx (linkPoint links k) .y % 2 ^ 16 ∷ []
+
+-- n links from link k on, in a ring that began at link first; the first point stands again at a ring's end
+unfoldable pub walkPoints : ℕ → List ℕ → ℕ → ℕ → ℕ → List ℕ
+walkPoints dx links first k zero = []
+walkPoints dx links first k (suc n) =
+    cond (ltb (linkNext links k) mark)
+    (pointWords dx links k ++ walkPoints dx links first (linkNext links k) n)
+    (pointWords dx links k ++ (pointWords dx links first ++ walkPoints dx links (linkNext links k - mark) (linkNext links k - mark) n))
+
+-- a ring's record: first point, point count, class of a bare ring, no owner
+unfoldable pub recordWords : ℕ → ℕ → List ℕ
+recordWords first count = first % 2 ^ 32 ∷ count % 2 ^ 32 ∷ 2 ∷ noOwner ∷ []
+
+-- n links from link k on, in a ring whose first point has number first and that has had size links so far
+unfoldable pub walkRecords : List ℕ → ℕ → ℕ → ℕ → ℕ → List ℕ
+walkRecords links first size k zero = []
+walkRecords links first size k (suc n) =
+    cond (ltb (linkNext links k) mark)
+    (walkRecords links first (suc size) (linkNext links k) n)
+    (recordWords first (size + 2) ++ walkRecords links (first + size + 2) 0 (linkNext links k - mark) n)
