@@ -9,3 +9,6 @@ pub mod Filing
 pub mod Steps
 pub mod Leaves
 pub mod Segments
+pub mod Shapes
+pub mod CellStep
+pub mod WholeCell

@@ -1,0 +1,156 @@
+-- The three loops. A walk's invariant says that storing what the links not yet walked give leaves what storing the whole walk leaves, and a turn stores what
+-- one link gives. Clearing has cleared the words so far. Assumes nothing.
+use mathlib.Core.Path.{_≡_, refl, sym, ap, _∙_}
+use mathlib.Core.List.{List, _++_}
+use Prim.Native.Nat.{ℕ, zero, suc, _+_, _-_, _*_, _≤_, _<_}
+use native.Mathlib.Numerals.{add-one}
+use native.Mathlib.Omega.{arith}
+use lib.ListN.{length, set}
+use lib.Seq.{sets, length-sets}
+use borrow.Author.Tests.{lt-ltb, le-ltb}
+use Rattle.machine.specs.Machine.{mark, linkNext}
+use Rattle.machine.specs.Walk.{pointWords, walkPoints, recordWords, walkRecords}
+use Rattle.packing.specs.Cleared.{cleared}
+use Rattle.packing.proofs.Laws.{stores-follow, cleared-none, clearing-keeps-the-length, a-table-is-cleared-whole, one-word-more}
+
+-- ---- a run of stores, part of which is made
+
+-- storing the rest from word at on leaves what storing the whole from word 0 on in the table at the start leaves
+pub record Stored (start whole : List ℕ) (at : ℕ) (table rest : List ℕ) : Type 0 where
+  pub leaves : sets start 0 whole ≡ sets table at rest
+
+pub stored-room : {start whole : List ℕ} {at : ℕ} {table rest : List ℕ} → Stored start whole at table rest → length table ≡ length start
+stored-room {start} {whole} {at} {table} {rest} s =
+    sym (length-sets table at rest) ∙ sym (ap length (s .leaves)) ∙ length-sets start 0 whole
+
+stored-next : {start whole : List ℕ} {at : ℕ} {table rest : List ℕ} → Stored start whole at table rest →
+    (words after : List ℕ) (table′ : List ℕ) → rest ≡ words ++ after → table′ ≡ sets table at words →
+    Stored start whole (at + length words) table′ after
+stored-next {start} {whole} {at} {table} s words after table′ e f =
+    record { leaves = s .leaves ∙ ap (sets table at) e ∙ stores-follow table at words after ∙ rw f }
+
+-- ---- the points
+
+module _ (dx : ℕ) (links : List ℕ) (first k : ℕ) where
+  points-along : (left : ℕ) → 0 < left → linkNext links k < mark →
+      walkPoints dx links first k left ≡ pointWords dx links k ++ walkPoints dx links first (linkNext links k) (left - 1)
+  unfolding walkPoints
+  points-along zero more h = absurd (omega arith)
+  points-along (suc n) more h = let fewer : suc n - 1 ≡ n = omega arith in rw (lt-ltb _ _ h, fewer)
+
+  points-around : (left : ℕ) → 0 < left → mark ≤ linkNext links k →
+      walkPoints dx links first k left
+      ≡ pointWords dx links k ++ (pointWords dx links first ++ walkPoints dx links (linkNext links k - mark) (linkNext links k - mark) (left - 1))
+  unfolding walkPoints
+  points-around zero more h = absurd (omega arith)
+  points-around (suc n) more h = let fewer : suc n - 1 ≡ n = omega arith in rw (le-ltb _ _ h, fewer)
+
+-- the ring began at link first; left links are to be walked, from link k on, and their points go to word at and on
+pub record PointsLeft (dx : ℕ) (links start : List ℕ) (head count : ℕ) (points : List ℕ) (first k at left : ℕ) : Type 0 where
+  pub room : at + 4 * left ≤ 4 * count
+  pub so-far : Stored start (walkPoints dx links head head count) at points (walkPoints dx links first k left)
+
+pub points-begin : (dx : ℕ) (links start : List ℕ) (head count : ℕ) → PointsLeft dx links start head count start head head 0 count
+points-begin dx links start head count = record { room = omega arith; so-far = record { leaves = refl } }
+
+module _ {dx : ℕ} {links start : List ℕ} {head count : ℕ} {points : List ℕ} {first k at left : ℕ} (s : PointsLeft dx links start head count points first k at left) where
+  pub points-end : left ≤ 0 → points ≡ sets start 0 (walkPoints dx links head head count)
+  unfolding walkPoints
+  points-end h = let none : left ≡ 0 = omega arith in sym (rw none at (s .so-far .leaves))
+
+  -- a link that is not the last of its ring
+  pub points-next : {points′ : List ℕ} {next : ℕ} → 0 < left → points′ ≡ sets points at (pointWords dx links k) → next ≡ linkNext links k → next < mark →
+      PointsLeft dx links start head count points′ first next (at + 2) (left - 1)
+  unfolding pointWords
+  points-next {points′} {next} more e f h =
+      record {
+        room = omega arith;
+        so-far = rw f (stored-next (s .so-far) (pointWords dx links k) _ points′ (points-along dx links first k left more (rw f at h)) e);
+      }
+
+  -- the last link of its ring
+  pub points-closed : {points′ points″ : List ℕ} {next : ℕ} → 0 < left → points′ ≡ sets points at (pointWords dx links k) → next ≡ linkNext links k → mark ≤ next →
+      points″ ≡ sets points′ (at + 2) (pointWords dx links first) →
+      PointsLeft dx links start head count points″ (next - mark) (next - mark) (at + 2 + 2) (left - 1)
+  unfolding pointWords
+  points-closed {points′} {points″} {next} more e f h g =
+      let last = stored-next (s .so-far) (pointWords dx links k) _ points′ (points-around dx links first k left more (rw f at h)) e in
+      record { room = omega arith; so-far = rw f (stored-next last (pointWords dx links first) _ points″ refl g) }
+
+-- ---- the directory
+
+module _ (links : List ℕ) (first size k : ℕ) where
+  records-along : (left : ℕ) → 0 < left → linkNext links k < mark →
+      walkRecords links first size k left ≡ walkRecords links first (suc size) (linkNext links k) (left - 1)
+  unfolding walkRecords
+  records-along zero more h = absurd (omega arith)
+  records-along (suc n) more h = let fewer : suc n - 1 ≡ n = omega arith in rw (lt-ltb _ _ h, fewer)
+
+  records-around : (left : ℕ) → 0 < left → mark ≤ linkNext links k →
+      walkRecords links first size k left ≡ recordWords first (size + 2) ++ walkRecords links (first + size + 2) 0 (linkNext links k - mark) (left - 1)
+  unfolding walkRecords
+  records-around zero more h = absurd (omega arith)
+  records-around (suc n) more h = let fewer : suc n - 1 ≡ n = omega arith in rw (le-ltb _ _ h, fewer)
+
+-- the ring's first point has number first and it has had size links; left links are to be walked, from link k on, and their records go to word at and on
+pub record RecordsLeft (links start : List ℕ) (head count : ℕ) (directory : List ℕ) (first size k at left : ℕ) : Type 0 where
+  pub room : at + 4 * left ≤ 4 * count
+  pub few : first + size + 2 * left ≤ 2 * count
+  pub so-far : Stored start (walkRecords links 0 0 head count) at directory (walkRecords links first size k left)
+
+pub records-begin : (links start : List ℕ) (head count : ℕ) → RecordsLeft links start head count start 0 0 head 0 count
+records-begin links start head count = record { room = omega arith; few = omega arith; so-far = record { leaves = refl } }
+
+module _ {links start : List ℕ} {head count : ℕ} {directory : List ℕ} {first size k at left : ℕ} (s : RecordsLeft links start head count directory first size k at left) where
+  pub records-end : left ≤ 0 → directory ≡ sets start 0 (walkRecords links 0 0 head count)
+  unfolding walkRecords
+  records-end h = let none : left ≡ 0 = omega arith in sym (rw none at (s .so-far .leaves))
+
+  -- a link that is not the last of its ring
+  pub records-next : {next : ℕ} → 0 < left → next ≡ linkNext links k → next < mark →
+      RecordsLeft links start head count directory first (size + 1) next at (left - 1)
+  records-next {next} more f h =
+      record {
+        room = omega arith;
+        few = omega arith;
+        so-far = record { leaves = s .so-far .leaves ∙ rw (records-along links first size k left more (rw f at h), f, add-one) };
+      }
+
+  -- the last link of its ring
+  pub records-closed : {directory′ : List ℕ} {next : ℕ} → 0 < left → next ≡ linkNext links k → mark ≤ next →
+      directory′ ≡ sets directory at (recordWords first (size + 2)) →
+      RecordsLeft links start head count directory′ (first + (size + 2)) 0 (next - mark) (at + 4) (left - 1)
+  unfolding recordWords
+  records-closed {directory′} {next} more f h g =
+      let sum : first + (size + 2) ≡ first + size + 2 = omega arith in
+      record {
+        room = omega arith;
+        few = omega arith;
+        so-far = rw (f, sum) (stored-next (s .so-far) (recordWords first (size + 2)) _ directory′ (records-around links first size k left more (rw f at h)) g);
+      }
+
+-- ---- clearing
+
+-- the first i words are cleared
+pub record ClearedTo (start : List ℕ) (words : ℕ) (table : List ℕ) (i : ℕ) : Type 0 where
+  pub within : i ≤ words
+  pub so-far : table ≡ cleared start i
+
+pub cleared-begin : (start : List ℕ) (words : ℕ) → ClearedTo start words start 0
+cleared-begin start words = record { within = omega arith; so-far = sym (cleared-none start) }
+
+module _ {start : List ℕ} {words : ℕ} {table : List ℕ} {i : ℕ} (s : ClearedTo start words table i) where
+  pub cleared-room : length table ≡ length start
+  cleared-room = ap length (s .so-far) ∙ clearing-keeps-the-length start i
+
+  pub cleared-next : i + 1 ≤ words → ClearedTo start words (set table i 0) (i + 1)
+  cleared-next h = record { within = h; so-far = rw (s .so-far) (one-word-more start i) }
+
+  -- as many words as asked
+  pub cleared-asked : words < i + 1 → table ≡ cleared start words
+  cleared-asked h = let all : i ≡ words = omega arith in s .so-far ∙ rw all
+
+  -- all words
+  pub cleared-all : length table ≤ i → table ≡ cleared start words
+  cleared-all h =
+      s .so-far ∙ a-table-is-cleared-whole start i (omega (arith, cleared-room)) ∙ sym (a-table-is-cleared-whole start words (omega (arith, cleared-room)))

@@ -1,0 +1,2 @@
+-- What the zeroing of a work table leaves.
+pub mod Cleared

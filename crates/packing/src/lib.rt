@@ -1,0 +1,150 @@
+// What a build writes once all rings are closed: the points and the directory, each by one walk along the links, and the zeros that the work tables are
+// left with. Every function is total: a word past a table's end reads as 0 and is not stored.
+ghost use mathlib.Core.Path.{_≡_};
+ghost use Prim.Native.Nat.{_%_, _^_};
+ghost use lib.ListN.{getD, set};
+ghost use lib.Seq.{sets};
+ghost use Rattle.machine.specs.Machine.{linkNext};
+ghost use Rattle.machine.specs.Walk.{pointWords, walkPoints, recordWords, walkRecords};
+ghost use Rattle.packing.specs.Cleared.{cleared};
+
+// The last link of a ring holds this number, with the first link of the next ring added. No link has this number or a larger one.
+const MARK: u32 = 2147483648;
+
+// The class of a bare ring, in a directory record.
+const BARE_RING: u32 = 2;
+
+// The owner of a ring that has none, in a directory record.
+const NO_OWNER: u32 = 4294967295;
+
+// The word of a table at an index, and 0 past the end.
+fn word(table: &[u32], i: usize) -> u32
+    ensures { λ r. ⌜ r ≡ getD (now (table .entry)) i 0 ⌝ }
+{
+    if i < table.len() { table[i] } else { 0 }
+}
+
+// Stores a word of a table. Past the end nothing is stored.
+fn put(table: &mut [u32], i: usize, value: u32)
+    ensures { λ _. ⌜ now (table .exit) ≡ set (now (table .entry)) i value ⌝ }
+{
+    if i < table.len() {
+        table[i] = value;
+    }
+}
+
+// Stores a word of the points. Past the end nothing is stored.
+fn put_coordinate(points: &mut [u16], i: usize, value: u16)
+    ensures { λ _. ⌜ now (points .exit) ≡ set (now (points .entry)) i value ⌝ }
+{
+    if i < points.len() {
+        points[i] = value;
+    }
+}
+
+// A number as a word holds it, modulo 2^32.
+fn word_of(n: u64) -> u32
+    ensures { λ r. ⌜ r ≡ n % 2 ^ 32 ⌝ }
+{
+    (n % 4294967296) as u32
+}
+
+// The link after link `k`, and the mark with it where `k` is the last of its ring.
+fn next_link(links: &[u32], k: u32) -> u32
+    ensures { λ r. ⌜ r ≡ linkNext (now (links .entry)) k ⌝ }
+{
+    word(links, 2 * (k as usize) + 1)
+}
+
+// Stores the start point of link `k` as two words, from word `at` on: X, then Y.
+fn put_point(links: &[u32], dx: u32, k: u32, points: &mut [u16], at: usize)
+    ensures { λ _. ⌜ now (points .exit) ≡ sets (now (points .entry)) at (pointWords dx (now (links .entry)) k) ⌝ }
+{
+    let index = word(links, 2 * (k as usize)) as u64;
+    let stride = 2 * (dx as u64 + 1);
+    let x = (index % stride % 65536) as u16;
+    let y = (index / stride % 65536) as u16;
+    if at < points.len() {
+        put_coordinate(points, at, x);
+        put_coordinate(points, at + 1, y);
+    }
+}
+
+// Walks `count` links from link `head` on, and stores the points of the rings one after the other from word 0 on, two words a point. At a ring's end its
+// first point stands again. Past the end of `points` nothing is stored.
+pub fn write_points(links: &[u32], dx: u32, head: u32, count: u32, points: &mut [u16])
+    ensures { λ _. ⌜ now (points .exit) ≡ sets (now (points .entry)) 0 (walkPoints dx (now (links .entry)) head head count) ⌝ }
+{
+    let mut first = head;
+    let mut k = head;
+    let mut at: usize = 0;
+    let mut left = count;
+    while 0 < left {
+        left -= 1;
+        put_point(links, dx, k, points, at);
+        at += 2;
+        let next = next_link(links, k);
+        if next < MARK {
+            k = next;
+        } else {
+            put_point(links, dx, first, points, at);
+            at += 2;
+            k = next - MARK;
+            first = k;
+        }
+    }
+}
+
+// Stores the record of a ring as four words, from word `at` on: the number of its first point, how many points it has, its class, and no owner.
+fn put_record(directory: &mut [u32], at: usize, first: u64, count: u64)
+    ensures { λ _. ⌜ now (directory .exit) ≡ sets (now (directory .entry)) at (recordWords first count) ⌝ }
+{
+    if at < directory.len() {
+        put(directory, at, word_of(first));
+        put(directory, at + 1, word_of(count));
+        put(directory, at + 2, BARE_RING);
+        put(directory, at + 3, NO_OWNER);
+    }
+}
+
+// Walks `count` links from link `head` on, and stores a record for each ring, one after the other from word 0 on, four words a record. A ring has one point
+// for each of its links, and its first point again. Past the end of `directory` nothing is stored.
+pub fn write_directory(links: &[u32], head: u32, count: u32, directory: &mut [u32])
+    ensures { λ _. ⌜ now (directory .exit) ≡ sets (now (directory .entry)) 0 (walkRecords (now (links .entry)) 0 0 head count) ⌝ }
+{
+    let mut first: u64 = 0;
+    let mut size: u64 = 0;
+    let mut k = head;
+    let mut at: usize = 0;
+    let mut left = count;
+    while 0 < left {
+        left -= 1;
+        let next = next_link(links, k);
+        if next < MARK {
+            size += 1;
+            k = next;
+        } else {
+            let points = size + 2;
+            put_record(directory, at, first, points);
+            at += 4;
+            first += points;
+            size = 0;
+            k = next - MARK;
+        }
+    }
+}
+
+// Sets the first `words` words of a table to 0, or all where there are fewer. The rest stay.
+pub fn clear(table: &mut [u32], words: usize)
+    ensures { λ _. ⌜ now (table .exit) ≡ cleared (now (table .entry)) words ⌝ }
+{
+    let mut i = 0;
+    while i < table.len() {
+        let next = i + 1;
+        if words < next {
+            return;
+        }
+        table[i] = 0;
+        i = next;
+    }
+}
