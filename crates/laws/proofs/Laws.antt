@@ -4,14 +4,15 @@ use mathlib.Core.Path.{_≡_, refl, sym, _∙_, ap, ap₂, subst}
 use mathlib.Core.Bool.{Bool, true, false, _&&_}
 use mathlib.Core.List.{List, [], _∷_, _++_}
 use Prim.Native.Nat.{ℕ, zero, suc, _+_, _-_, _*_, _/_, _≤_, _<_}
+use native.Mathlib.Nat.{add-zero, zero-add, add-suc}
 use native.Mathlib.Omega.{arith}
 use lib.Dec.{ltb}
-use lib.ListN.{length}
+use lib.ListN.{length, length-append}
 use borrow.Author.Tests.{le-ltb}
 use Rattle.scope.specs.Terrain.{Sheet, sheet}
 use Rattle.scope.specs.Cells.{Point, Segment, drawn, cellNumber, cellSegments, met, opened, closed}
 use Rattle.scope.specs.Stitching.{Line, Drawing, nothing, stitchAll}
-use Rattle.scope.specs.Drawing.{segmentsAfter, drawingAfter, openAfter, ringsAfter, segmentsOf, ringsOf, segmentCount, ringCount, peak}
+use Rattle.scope.specs.Drawing.{along, down, upTo, segmentsAfter, drawingAfter, openAfter, ringsAfter, segmentsOf, ringsOf, segmentCount, ringCount, peak}
 use Rattle.scope.specs.Pairs.{differ, sumFrom, pairsAlong, pairsBetween, sharedPairs, pairsOfRows, pairsOfSheet}
 use Rattle.laws.proofs.Total.{total}
 use Rattle.laws.proofs.Counting.{same}
@@ -102,6 +103,42 @@ module _ (A : Sheet) {dx dy : ℕ} (out : Outside A dx dy) where
   pub segments-change-by-the-table : (r c : ℕ) → length (segmentsAfter A dx r (suc c)) ≡ length (segmentsAfter A dx r c) + length (drawn (cellNumber A c r))
   segments-change-by-the-table r c = more-segments A out r c
 
+  -- so the segments after a cell are no more than those of the whole sheet
+  row-grows : (r c k : ℕ) → length (segmentsAfter A dx r c) ≤ length (segmentsAfter A dx r (c + k))
+  row-grows r c zero = omega (arith, ap (λ (n : ℕ). length (segmentsAfter A dx r n)) (add-zero c))
+  row-grows r c (suc k) = omega (arith, row-grows r c k, segments-change-by-the-table r (c + k), ap (λ (n : ℕ). length (segmentsAfter A dx r n)) (add-suc c k))
+
+  next-row : (r : ℕ) → segmentsAfter A dx (suc r) 0 ≡ segmentsAfter A dx r (suc dx)
+  unfolding segmentsAfter upTo along down
+  next-row r = refl
+
+  rows-grow : (r k : ℕ) → length (segmentsAfter A dx r (suc dx)) ≤ length (segmentsAfter A dx (r + k) (suc dx))
+  rows-grow r zero = omega (arith, ap (λ (n : ℕ). length (segmentsAfter A dx n (suc dx))) (add-zero r))
+  rows-grow r (suc k) =
+      omega (arith, rows-grow r k, ap length (next-row (r + k)), row-grows (suc (r + k)) 0 (suc dx), ap (λ (n : ℕ). length (segmentsAfter A dx (suc (r + k)) n)) (zero-add (suc dx)),
+        ap (λ (n : ℕ). length (segmentsAfter A dx n (suc dx))) (add-suc r k))
+
+  pub segments-are-no-more : (r c : ℕ) → r ≤ dy → c ≤ suc dx → length (segmentsAfter A dx r c) ≤ segmentCount A dx dy
+  unfolding segmentCount segmentsOf
+  segments-are-no-more r c hr hc =
+      omega (arith, row-grows r c (suc dx - c), ap (λ (n : ℕ). length (segmentsAfter A dx r n)) columns, rows-grow r (dy - r), ap (λ (n : ℕ). length (segmentsAfter A dx n (suc dx))) rows)
+    where
+      columns : c + (suc dx - c) ≡ suc dx
+      columns = omega arith
+      rows : r + (dy - r) ≡ dy
+      rows = omega arith
+
+  same-open : (r : ℕ) → length (openAfter A dx (suc r) 0) ≡ length (openAfter A dx r (suc dx))
+  unfolding openAfter drawingAfter
+  same-open r = ap (λ (σs : List Segment). length (stitchAll nothing σs .lines)) (next-row r)
+
+  -- and the open lines never more than the peak
+  pub open-lines-are-no-more : (r c : ℕ) → r ≤ dy → c ≤ suc dx → length (openAfter A dx r c) ≤ peak A dx dy
+  open-lines-are-no-more zero zero hr hc = unfold openAfter drawingAfter segmentsAfter upTo along down stitchAll nothing in omega arith
+  open-lines-are-no-more (suc r) zero hr hc =
+      omega (arith, peak-is-highest A dx dy r dx (omega arith) (omega arith), same-open r)
+  open-lines-are-no-more r (suc c) hr hc = peak-is-highest A dx dy r c hr (omega arith)
+
   -- ---- 2. after the last cell no line is open
 
   below-all : (i : ℕ) → differ (A i (suc dy)) (A (suc i) (suc dy)) ≡ 0
@@ -179,6 +216,16 @@ module _ (A : Sheet) {dx dy : ℕ} (out : Outside A dx dy) where
     where
       nothing-there : total (pairSum (λ a b. 1)) [] ≡ 0
       nothing-there = unfold total in refl
+
+  -- rings are no more than segments
+  two-points : (rings : List Line) → Each Closed rings → 2 * length rings ≤ total length rings
+  unfolding total
+  two-points [] loops = omega arith
+  two-points (ring ∷ rings) loops = omega (arith, two-points rings (loops .1), ap length (loops .0 .2), length-append (loops .0 .1) (loops .0 .0 ∷ []))
+
+  pub rings-are-no-more : (r c : ℕ) → length (ringsAfter A dx r c) ≤ length (segmentsAfter A dx r c)
+  rings-are-no-more r c =
+      omega (arith, points-of (ringsAfter A dx r c) (closed-after r c), two-points (ringsAfter A dx r c) (closed-after r c), rings-sum (λ a b. 1) r c, one-each (segmentsAfter A dx r c))
 
   -- ---- 4. every ring is closed, has five points or more, neighbours differ, it is inside the grid, and no point stands twice but the first
 

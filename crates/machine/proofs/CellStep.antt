@@ -26,7 +26,7 @@ use Rattle.laws.proofs.Tips.{Tip, tipBy, edgeWord, WordsApart, tip-reached, spe
 use Rattle.cells.proofs.Laws.{a-point-comes-back-from-its-index}
 use Rattle.machine.specs.Machine.{mark, Tables, Entry, entryOf, sideWord, drawStroke, drawStrokes, closed, joined}
 use Rattle.machine.proofs.Held.{HeldRings}
-use Rattle.machine.proofs.Steps.{Carried}
+use Rattle.machine.proofs.Steps.{Kept, Carried}
 use Rattle.machine.proofs.Leaves.{all, Columns}
 use Rattle.machine.proofs.Segments.{segment, append-drawn, prepend-drawn, start-drawn, close-drawn, join-drawn}
 use Rattle.machine.proofs.Shapes.{Near, at-left, at-top, Far, at-right, at-bottom, near, far, Shape, quiet, onward, backward, opening-down, opening-up, meeting-up, meeting-down, saddle-five, saddle-ten, slotOf, opposite, draw-onward, draw-backward}
@@ -78,7 +78,7 @@ module _ (A : Sheet) {dx dy : ℕ} (out : Outside A dx dy) (r c : ℕ) (hc : c �
   word-of role d h = side-word dx c r d (drawable A out role c r d h)
 
   -- ---- the slots of the near sides, read before the cell is drawn
-  module _ (h room : ℕ) (t : Tables) (now : Carried dx h room (length before) all (stitchAll nothing before) t) where
+  module _ (h room : ℕ) (kept : Kept) (t : Tables) (now : Carried dx h room kept (length before) all (stitchAll nothing before) t) where
     abbrev pub lines₀ : List Line
     lines₀ = stitchAll nothing before .lines
 
@@ -152,18 +152,18 @@ module _ (A : Sheet) {dx dy : ℕ} (out : Outside A dx dy) (r c : ℕ) (hc : c �
 
       pub onward-first : (live′ : Point → Type 0) (s : Near) (e : Far) → onSide begin A c r (near s) ≡ true → onSide finish A c r (far e) ≡ true
         → ((i : ℕ) → i < length (stitchAll nothing (with-stroke (near s) (far e)) .lines) → (p : Point) → Tip p (getD (stitchAll nothing (with-stroke (near s) (far e)) .lines) i []) → live′ p → edgeWord dx p ≡ edgeWord dx (indexedPoint dx (index (far e))) → i ≡ slotOf entry s)
-        → Carried dx h room (suc (length before)) live′ (stitchAll nothing (with-stroke (near s) (far e))) (drawStroke dx c entry t (near s ⟶ far e) (length before) (index (near s)) (index (far e)))
+        → Carried dx h room kept (suc (length before)) live′ (stitchAll nothing (with-stroke (near s) (far e))) (drawStroke dx c entry t (near s ⟶ far e) (length before) (index (near s)) (index (far e)))
       onward-first live′ s e hs he alone =
           rw (draw-onward dx c entry t s e (length before) (index (near s)) (index (far e)), ← words finish (far e) he)
-          (append-drawn dx h room before (index (near s)) (index (far e)) (onFinished (near s)) (onFinished (far e)) sound (fresh-at (near s) (far e) hs he) small all live′ t now
+          (append-drawn dx h room kept before (index (near s)) (index (far e)) (onFinished (near s)) (onFinished (far e)) sound (fresh-at (near s) (far e) hs he) small all live′ t now
             (far-finished e) (slotOf entry s) (slot-inside begin s hs) (omega (arith, slot-inside begin s hs)) (tip-at begin s hs) alone (λ i hi p tip l ne. tt))
 
       pub backward-first : (live′ : Point → Type 0) (s : Far) (e : Near) → onSide begin A c r (far s) ≡ true → onSide finish A c r (near e) ≡ true
         → ((i : ℕ) → i < length (stitchAll nothing (with-stroke (far s) (near e)) .lines) → (p : Point) → Tip p (getD (stitchAll nothing (with-stroke (far s) (near e)) .lines) i []) → live′ p → edgeWord dx p ≡ edgeWord dx (indexedPoint dx (index (far s))) → i ≡ slotOf entry e)
-        → Carried dx h room (suc (length before)) live′ (stitchAll nothing (with-stroke (far s) (near e))) (drawStroke dx c entry t (far s ⟶ near e) (length before) (index (far s)) (index (near e)))
+        → Carried dx h room kept (suc (length before)) live′ (stitchAll nothing (with-stroke (far s) (near e))) (drawStroke dx c entry t (far s ⟶ near e) (length before) (index (far s)) (index (near e)))
       backward-first live′ s e hs he alone =
           rw (draw-backward dx c entry t s e (length before) (index (far s)) (index (near e)), ← words begin (far s) hs)
-          (prepend-drawn dx h room before (index (far s)) (index (near e)) (onFinished (far s)) (onFinished (near e)) sound (fresh-at (far s) (near e) hs he) small all live′ t now
+          (prepend-drawn dx h room kept before (index (far s)) (index (near e)) (onFinished (far s)) (onFinished (near e)) sound (fresh-at (far s) (near e) hs he) small all live′ t now
             (far-finished s) (slotOf entry e) (slot-inside finish e he) (omega (arith, slot-inside finish e he)) (tip-at finish e he) alone (λ i hi p tip l ne. tt))
 
       -- ---- a stroke between the two near sides: what is left open lies on columns
@@ -222,17 +222,17 @@ module _ (A : Sheet) {dx dy : ℕ} (out : Outside A dx dy) (r c : ℕ) (hc : c �
         met-tables b = cond b (closed dx t (length before) (index (near s)) (slotOf entry s)) (joined dx t (length before) (index (near s)) (slotOf entry s) (slotOf entry (opposite s)))
 
         pub meeting-first : WordsApart dx lines₀ → room ≤ mark → length (now .loops) ≤ length before
-          → Carried dx h room (suc (length before)) all (stitchAll nothing (with-stroke (near s) (near (opposite s)))) (met-tables (eqb (slotOf entry s) (slotOf entry (opposite s))))
+          → Carried dx h room kept (suc (length before)) all (stitchAll nothing (with-stroke (near s) (near (opposite s)))) (met-tables (eqb (slotOf entry s) (slotOf entry (opposite s))))
         meeting-first apart numbers few = by (ℕ-discrete (slotOf entry s) (slotOf entry (opposite s)))
           where
-            by : Dec (slotOf entry s ≡ slotOf entry (opposite s)) → Carried dx h room (suc (length before)) all (stitchAll nothing (with-stroke (near s) (near (opposite s)))) (met-tables (eqb (slotOf entry s) (slotOf entry (opposite s))))
+            by : Dec (slotOf entry s ≡ slotOf entry (opposite s)) → Carried dx h room kept (suc (length before)) all (stitchAll nothing (with-stroke (near s) (near (opposite s)))) (met-tables (eqb (slotOf entry s) (slotOf entry (opposite s))))
             by (yes q) =
                 rw (eq-eqb (slotOf entry s) (slotOf entry (opposite s)) q)
-                (close-drawn dx h room before (index (near s)) (index (near (opposite s))) (onFinished (near s)) (onFinished (near (opposite s))) sound (fresh-at (near s) (near (opposite s)) hs he) small t now low apart columns-left
+                (close-drawn dx h room kept before (index (near s)) (index (near (opposite s))) (onFinished (near s)) (onFinished (near (opposite s))) sound (fresh-at (near s) (near (opposite s)) hs he) small t now low apart columns-left
                   (slotOf entry s) (slot-inside begin s hs) (tip-at begin s hs)
                   (subst (λ (n : ℕ). startsAt (indexedPoint dx (index (near (opposite s)))) (getD lines₀ n []) ≡ true) (sym q) (tip-at finish (opposite s) he))
                   (omega arith) (unfold mark in omega arith))
             by (no q) =
                 rw (ne-eqb (slotOf entry s) (slotOf entry (opposite s)) q)
-                (join-drawn dx h room before (index (near s)) (index (near (opposite s))) (onFinished (near s)) (onFinished (near (opposite s))) sound (fresh-at (near s) (near (opposite s)) hs he) small t now low apart columns-left
+                (join-drawn dx h room kept before (index (near s)) (index (near (opposite s))) (onFinished (near s)) (onFinished (near (opposite s))) sound (fresh-at (near s) (near (opposite s)) hs he) small t now low apart columns-left
                   (slotOf entry s) (slotOf entry (opposite s)) (slot-inside begin s hs) (slot-inside finish (opposite s) he) q (tip-at begin s hs) (tip-at finish (opposite s) he))

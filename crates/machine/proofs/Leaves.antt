@@ -7,8 +7,9 @@ use Prim.Native.Nat.{ℕ, zero, suc, _+_, _-_, _*_, _%_, _^_, _≤_, _<_}
 use native.Mathlib.Decide.{ℕ-discrete}
 use native.Mathlib.Omega.{arith}
 use lib.Dec.{eqb}
-use lib.ListN.{length, getD, set, length-set}
+use lib.ListN.{length, getD, set, drop, length-set}
 use lib.Seq.{getD-set-same, getD-set-other}
+use borrow.Author.Tests.{eq-eqb, ne-eqb}
 use Rattle.scope.specs.Cells.{Point, indexedPoint}
 use Rattle.scope.specs.Stitching as rules
 use Rattle.scope.specs.Stitching.{Line, Drawing, startsAt, endsAt, without}
@@ -16,12 +17,12 @@ use Rattle.laws.proofs.Ends.{start-of-joined, end-of-joined}
 use Rattle.laws.proofs.Strokes.{Role, begin, finish}
 use Rattle.laws.proofs.Tips.{Tip, tipBy, edgeWord, WordsApart}
 use Rattle.machine.specs.Machine.{mark, wordOf, columnWord, firstLink, lastLink, endPoint, linkCount, linkPoint, withSlot, withNext, withLink, released, Tables, joinedLinks, joinedLines, joined, closedLinks, closed}
-use Rattle.machine.proofs.Views.{Slot, slotAt, length-withSlot, frontier-of-withSlot, length-withNext, length-withLink}
+use Rattle.machine.proofs.Views.{Slot, slotAt, length-withSlot, frontier-of-withSlot, length-withNext, length-withLink, past-filed, past-withSlot, past-withNext, past-withLink}
 use Rattle.machine.proofs.Held.{HeldLine, Held}
-use Rattle.machine.proofs.Removal.{dropAt, drop-same, drop-other, length-drop-at, length-released}
-use Rattle.machine.proofs.Ops.{join-held, joined-others, close-held, closed-others}
+use Rattle.machine.proofs.Removal.{dropAt, drop-same, drop-other, length-drop-at, length-released, column-in-frontier, past-released}
+use Rattle.machine.proofs.Ops.{last-below, tail-below, join-held, joined-others, close-held, closed-others}
 use Rattle.machine.proofs.Filing.{start-tip, end-tip, starts-is, ends-is, ends-at-end, column-of-even, Filed, Framed, filed-anew, filed-left}
-use Rattle.machine.proofs.Steps.{Carried, links-fit, frontier-fits, held-line, framed-by}
+use Rattle.machine.proofs.Steps.{Kept, Carried, links-fit, frontier-fits, held-line, framed-by}
 
 -- every tip counts
 abbrev pub all : Point → Type 0
@@ -58,7 +59,7 @@ module _ (dx : ℕ) (table links chain : List ℕ) (m : ℕ) (line : Line) (held
       by begin h = absurd (ne (ap (edgeWord dx) (starts-is dx links (slotAt dx table m) chain line held p h) ∙ first-column .2))
       by finish h = ap (edgeWord dx) (ends-is dx links (slotAt dx table m) chain line held p h) ∙ end-column .2
 
-module _ (dx h room n : ℕ) (d : Drawing) (t : Tables) (now : Carried dx h room n all d t) (small : n < room) (s e : ℕ) (fits : length (d .lines) ≤ h) (apart : WordsApart dx (d .lines)) where
+module _ (dx h room : ℕ) (kept : Kept) (n : ℕ) (d : Drawing) (t : Tables) (now : Carried dx h room kept n all d t) (small : n < room) (s e : ℕ) (fits : length (d .lines) ≤ h) (apart : WordsApart dx (d .lines)) where
   lines-framed : Framed dx (d .lines)
   lines-framed = framed-by dx n t d (now .chains) (now .loops) (now .held)
 
@@ -66,7 +67,7 @@ module _ (dx h room n : ℕ) (d : Drawing) (t : Tables) (now : Carried dx h room
   module _ (f : ℕ) (hf : f < length (d .lines)) (ends-here : endsAt (indexedPoint dx s) (getD (d .lines) f []) ≡ true) (starts-here : startsAt (indexedPoint dx e) (getD (d .lines) f []) ≡ true)
     (numbers : n ≤ mark) (columns : Columns (rules.close d f (indexedPoint dx e) .lines)) where
     held-f : HeldLine dx (t .links) (slotAt dx (t .lines) f) (getD (now .chains) f []) (getD (d .lines) f [])
-    held-f = held-line dx h room n all all d t now small f hf
+    held-f = held-line dx h room kept n all all d t now small f hf
 
     at-end : indexedPoint dx s ≡ indexedPoint dx (endPoint dx (t .lines) f)
     at-end = ends-is dx (t .links) (slotAt dx (t .lines) f) (getD (now .chains) f []) (getD (d .lines) f []) held-f (indexedPoint dx s) ends-here
@@ -75,31 +76,50 @@ module _ (dx h room n : ℕ) (d : Drawing) (t : Tables) (now : Carried dx h room
     at-start = sym (starts-is dx (t .links) (slotAt dx (t .lines) f) (getD (now .chains) f []) (getD (d .lines) f []) held-f (indexedPoint dx e) starts-here)
 
     others : (i : ℕ) → i < length (d .lines) → (i ≡ f → ⊥) → HeldLine dx (closedLinks dx t n s f) (slotAt dx (t .lines) i) (getD (now .chains) i []) (getD (d .lines) i [])
-    others = closed-others dx n h t d (now .chains) (now .loops) (now .held) (now .lines-long) (links-fit dx h room n all all d t now small) f hf s e at-end at-start numbers
+    others = closed-others dx n h t d (now .chains) (now .loops) (now .held) (now .lines-long) (links-fit dx h room kept n all all d t now small) f hf s e at-end at-start numbers
 
-    pub close-carried : length (now .loops) + 1 < 2 ^ 32 → Carried dx h room (suc n) all (rules.close d f (indexedPoint dx e)) (closed dx t n s f)
+    pub close-carried : length (now .loops) + 1 < 2 ^ 32 → Carried dx h room kept (suc n) all (rules.close d f (indexedPoint dx e)) (closed dx t n s f)
     close-carried rings-fit = record {
         chains = _;
         loops = _;
-        held = close-held dx n h t d (now .chains) (now .loops) (now .held) (now .lines-long) (links-fit dx h room n all all d t now small) f hf s e at-end at-start fits rings-fit numbers;
+        held = close-held dx n h t d (now .chains) (now .loops) (now .held) (now .lines-long) (links-fit dx h room kept n all all d t now small) f hf s e at-end at-start fits rings-fit numbers;
         filed = left (length (d .lines) - 1) (omega arith);
         lines-long = unfold closed in rw (length-released dx (t .lines) (closedLinks dx t n s f) (t .progress .count - 1) f) (now .lines-long);
-        links-long = unfold closed in subst (λ (k : ℕ). 2 * room ≤ k) (sym long-links) (now .links-long)
+        links-long = unfold closed in subst (λ (k : ℕ). 2 * room ≤ k) (sym long-links) (now .links-long);
+        lines-past = unfold closed in past-released dx h (t .lines) (closedLinks dx t n s f) (t .progress .count - 1) f (omega arith) ∙ now .lines-past;
+        links-past = unfold closed in past-links (now .loops) refl ∙ now .links-past
         }
       where
+        base : List ℕ
+        base = withNext (withLink (t .links) n s mark) (lastLink dx (t .lines) f) n
+        links-by : Bool → List ℕ
+        links-by b = cond b base (withNext base (t .progress .tail) (wordOf (mark + firstLink dx (t .lines) f)))
+        past-base : drop (2 * room) base ≡ drop (2 * room) (t .links)
+        past-base =
+            past-withNext room (withLink (t .links) n s mark) (lastLink dx (t .lines) f) n
+              (omega (arith, last-below dx n h t d (now .chains) (now .loops) (now .held) (now .lines-long) (links-fit dx h room kept n all all d t now small) f hf))
+            ∙ past-withLink room (t .links) n s mark small
+        past-links : (l : List (List ℕ)) → now .loops ≡ l → drop (2 * room) (closedLinks dx t n s f) ≡ drop (2 * room) (t .links)
+        past-links [] none =
+            unfold closedLinks in
+            subst (λ (b : Bool). drop (2 * room) (links-by b) ≡ drop (2 * room) (t .links)) (sym (eq-eqb (t .progress .rings) 0 (now .held .rings-are ∙ ap length none))) past-base
+        past-links (q ∷ qs) some =
+            unfold closedLinks in
+            subst (λ (b : Bool). drop (2 * room) (links-by b) ≡ drop (2 * room) (t .links)) (sym (ne-eqb (t .progress .rings) 0 (λ z. omega (arith, now .held .rings-are, ap length some))))
+            (past-withNext room base (t .progress .tail) (wordOf (mark + firstLink dx (t .lines) f))
+              (omega (arith, tail-below dx n h t d (now .chains) (now .loops) (now .held) (now .lines-long) (links-fit dx h room kept n all all d t now small) f hf s e at-end at-start q qs some numbers))
+            ∙ past-base)
         long-links : length (closedLinks dx t n s f) ≡ length (t .links)
         long-links = unfold closedLinks in by (eqb (t .progress .rings) 0)
           where
-            base : List ℕ
-            base = withNext (withLink (t .links) n s mark) (lastLink dx (t .lines) f) n
-            by : (b : Bool) → length (cond b base (withNext base (t .progress .tail) (wordOf (mark + firstLink dx (t .lines) f)))) ≡ length (t .links)
+            by : (b : Bool) → length (links-by b) ≡ length (t .links)
             by true = simp (length-withNext, length-withLink)
             by false = simp (length-withNext, length-withLink)
         left : (m : ℕ) → length (d .lines) ≡ suc m → Filed dx all (closed dx t n s f .lines) (rules.close d f (indexedPoint dx e) .lines)
         left m long j hj p tip live =
             unfold closed in
             subst (λ (k : ℕ). getD (released dx (t .lines) (closedLinks dx t n s f) k f) (edgeWord dx p) 0 ≡ j) (sym one-fewer)
-            (filed-left dx (t .lines) (closedLinks dx t n s f) (d .lines) m f long (omega arith) (frontier-fits dx h room n all all d t now small)
+            (filed-left dx (t .lines) (closedLinks dx t n s f) (d .lines) m f long (omega arith) (frontier-fits dx h room kept n all all d t now small)
               (λ i hi ne q was. now .filed i (omega arith) q was tt)
               (λ i hi q was. lines-framed i (omega arith) q was)
               (λ i k hi hk ni nk q r was was′ w. apart i k (omega arith) (omega arith) q r was was′ w)
@@ -135,7 +155,7 @@ module _ (dx h room n : ℕ) (d : Drawing) (t : Tables) (now : Carried dx h room
     links = joinedLinks dx t n s f g
 
     ends-at : indexedPoint dx s ≡ indexedPoint dx (endPoint dx (t .lines) f)
-    ends-at = ends-is dx (t .links) (slotAt dx (t .lines) f) (getD (now .chains) f []) (getD (d .lines) f []) (held-line dx h room n all all d t now small f hf) (indexedPoint dx s) ends-here
+    ends-at = ends-is dx (t .links) (slotAt dx (t .lines) f) (getD (now .chains) f []) (getD (d .lines) f []) (held-line dx h room kept n all all d t now small f hf) (indexedPoint dx s) ends-here
 
     -- where a tip of the lines with f and g together was a tip before
     data Was (i : ℕ) (p : Point) : Type 0 where
@@ -175,11 +195,11 @@ module _ (dx h room n : ℕ) (d : Drawing) (t : Tables) (now : Carried dx h room
 
     end-is-Z : (p : Point) → endsAt p (getD (d .lines) g []) ≡ true → p ≡ Z
     unfolding Z
-    end-is-Z p k = ends-is dx (t .links) (slotAt dx (t .lines) g) (getD (now .chains) g []) (getD (d .lines) g []) (held-line dx h room n all all d t now small g hg) p k
+    end-is-Z p k = ends-is dx (t .links) (slotAt dx (t .lines) g) (getD (now .chains) g []) (getD (d .lines) g []) (held-line dx h room kept n all all d t now small g hg) p k
 
     ends-at-Z : endsAt Z (getD (d .lines) g []) ≡ true
     unfolding Z
-    ends-at-Z = ends-at-end dx (t .links) (slotAt dx (t .lines) g) (getD (now .chains) g []) (getD (d .lines) g []) (held-line dx h room n all all d t now small g hg)
+    ends-at-Z = ends-at-end dx (t .links) (slotAt dx (t .lines) g) (getD (now .chains) g []) (getD (d .lines) g []) (held-line dx h room kept n all all d t now small g hg)
 
     Z-is-tip : Tip Z (getD both f [])
     Z-is-tip =
@@ -229,7 +249,7 @@ module _ (dx h room n : ℕ) (d : Drawing) (t : Tables) (now : Carried dx h room
           by (yes q) =
               ap (λ (j : ℕ). getD (set stored w f) j 0) q
               ∙ getD-set-same stored w f 0 (omega (arith, length-withSlot dx (t .lines) f (firstLink dx (t .lines) f) (lastLink dx (t .lines) g) (endPoint dx (t .lines) g) (wordOf (linkCount dx (t .lines) f + linkCount dx (t .lines) g + 1)),
-                frontier-fits dx h room n all all d t now small, framed-both i (omega arith) p tip, q))
+                frontier-fits dx h room kept n all all d t now small, framed-both i (omega arith) p tip, q))
               ∙ sym (apart-both i f (omega arith) hf away ne p Z tip Z-is-tip (q ∙ sym Z-column))
           by (no q) =
               getD-set-other stored w (edgeWord dx p) f 0 q
@@ -242,13 +262,13 @@ module _ (dx h room n : ℕ) (d : Drawing) (t : Tables) (now : Carried dx h room
       last-held : (m ≡ g → ⊥) → HeldLine dx links (slotAt dx table m) (chain-of m) (getD both m [])
       unfolding chain-of
       last-held away =
-          joined-others dx n h t d (now .chains) (now .loops) (now .held) (now .lines-long) (links-fit dx h room n all all d t now small) f g hf hg ne s fits ends-at m (omega arith) away
+          joined-others dx n h t d (now .chains) (now .loops) (now .held) (now .lines-long) (links-fit dx h room kept n all all d t now small) f g hf hg ne s fits ends-at m (omega arith) away
 
       left-filed : Filed dx all (joined dx t n s f g .lines) (rules.join d f g .lines)
       left-filed j hj p tip live =
           unfold joined in
           subst (λ (k : ℕ). getD (released dx table links k g) (edgeWord dx p) 0 ≡ j) (sym one-fewer)
-          (filed-left dx table links both m g both-long (omega arith) (omega (arith, long-table, frontier-fits dx h room n all all d t now small))
+          (filed-left dx table links both m g both-long (omega arith) (omega (arith, long-table, frontier-fits dx h room kept n all all d t now small))
             filed-both
             (λ i hi q b. framed-both i (omega arith) q b)
             (λ i k hi hk ni nk q r a b w. apart-both i k (omega arith) (omega arith) ni nk q r a b w)
@@ -260,12 +280,24 @@ module _ (dx h room n : ℕ) (d : Drawing) (t : Tables) (now : Carried dx h room
           one-fewer : t .progress .count - 1 ≡ m
           one-fewer = omega (arith, now .held .count-is)
 
-    pub join-carried : Carried dx h room (suc n) all (rules.join d f g) (joined dx t n s f g)
+    pub join-carried : Carried dx h room kept (suc n) all (rules.join d f g) (joined dx t n s f g)
     join-carried = record {
         chains = _;
         loops = now .loops;
-        held = join-held dx n h t d (now .chains) (now .loops) (now .held) (now .lines-long) (links-fit dx h room n all all d t now small) f g hf hg ne s fits ends-at;
+        held = join-held dx n h t d (now .chains) (now .loops) (now .held) (now .lines-long) (links-fit dx h room kept n all all d t now small) f g hf hg ne s fits ends-at;
         filed = left-filed (length (d .lines) - 1) (omega arith);
         lines-long = unfold joined in rw (length-released dx table links (t .progress .count - 1) g, long-table) (now .lines-long);
-        links-long = unfold joined joinedLinks in simp (length-withNext, length-withLink) (now .links-long)
+        links-long = unfold joined joinedLinks in simp (length-withNext, length-withLink) (now .links-long);
+        lines-past =
+            unfold joined joinedLines in
+            past-released dx h table links (t .progress .count - 1) g (omega arith)
+            ∙ past-filed dx h (withSlot dx (t .lines) f (firstLink dx (t .lines) f) (lastLink dx (t .lines) g) (endPoint dx (t .lines) g) (wordOf (linkCount dx (t .lines) f + linkCount dx (t .lines) g + 1))) (columnWord dx (endPoint dx (t .lines) g)) f (omega (arith, column-in-frontier dx (endPoint dx (t .lines) g)))
+            ∙ past-withSlot dx h (t .lines) f (firstLink dx (t .lines) f) (lastLink dx (t .lines) g) (endPoint dx (t .lines) g) (wordOf (linkCount dx (t .lines) f + linkCount dx (t .lines) g + 1)) (omega arith)
+            ∙ now .lines-past;
+        links-past =
+            unfold joined joinedLinks in
+            past-withNext room (withLink (t .links) n s (firstLink dx (t .lines) g)) (lastLink dx (t .lines) f) n
+              (omega (arith, last-below dx n h t d (now .chains) (now .loops) (now .held) (now .lines-long) (links-fit dx h room kept n all all d t now small) f hf))
+            ∙ past-withLink room (t .links) n s (firstLink dx (t .lines) g) small
+            ∙ now .links-past
         }

@@ -12,3 +12,6 @@ pub mod Segments
 pub mod Shapes
 pub mod CellStep
 pub mod WholeCell
+pub mod WholeRun
+pub mod Walking
+pub mod Built

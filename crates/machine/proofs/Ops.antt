@@ -107,7 +107,7 @@ module _ (dx next h : ℕ) (t : Tables) (d : Drawing) (chains loops : List (List
     in-rings : (k : ℕ) → 1 ≤ total (uses k) loops → k ≡ last → ⊥
     in-rings k u e = omega (arith, held .once k, chain-uses chains f k in-chains, last-used, ap (λ (n : ℕ). uses n (getD chains f [])) e)
 
-    last-below : last < next
+    pub last-below : last < next
     last-below = below-next last (chain-used f last hf last-used)
 
     -- ---- a line grows by one link
@@ -473,10 +473,13 @@ module _ (dx next h : ℕ) (t : Tables) (d : Drawing) (chains loops : List (List
         tail-used : 1 ≤ total (uses tail) loops
         tail-used = subst (λ (l : List (List ℕ)). 1 ≤ total (uses tail) l) (sym some) (uses-tail dx (t .links) (t .links) (t .progress .head) q qs (d .rings) tail held-rings)
 
+        pub tail-below : t .progress .tail < next
+        tail-below = below-next tail (unfold used in omega (arith, tail-used))
+
         tail-fits : 2 * tail + 1 < length base
         unfolding base behind
         tail-fits =
-            omega (arith, below-next tail (unfold used in omega (arith, tail-used)), length-extended (t .links) next s mark (last f hf) links-room (last-fits f hf s mark) (last-apart f hf s mark))
+            omega (arith, tail-below, length-extended (t .links) next s mark (last f hf) links-room (last-fits f hf s mark) (last-apart f hf s mark))
 
         told : List ℕ
         told = withNext base tail (wordOf (mark + first f hf))

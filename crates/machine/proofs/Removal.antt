@@ -7,13 +7,13 @@ use native.Mathlib.Nat.{mod-lt}
 use native.Mathlib.Decide.{ℕ-discrete}
 use native.Mathlib.Omega.{arith}
 use lib.Dec.{eqb}
-use lib.ListN.{length, getD, set, take, length-set, length-take}
+use lib.ListN.{length, getD, set, take, drop, length-set, length-take}
 use lib.Seq.{getD-set-same, getD-set-other, getD-take}
 use borrow.Author.Tests.{eq-eqb, ne-eqb}
 use Rattle.scope.specs.Stitching.{Line, without}
 use Rattle.laws.proofs.Total.{total, total-moved}
 use Rattle.machine.specs.Machine.{slotWord, columnWord, firstLink, lastLink, endPoint, linkCount, linkPoint, withSlot, moved, released}
-use Rattle.machine.proofs.Views.{Slot, slotAt, length-withSlot, slot-of-filed, slot-of-other, slot-of-same}
+use Rattle.machine.proofs.Views.{Slot, slotAt, length-withSlot, slot-of-filed, slot-of-other, slot-of-same, past-filed, past-withSlot}
 use Rattle.machine.proofs.Held.{HeldLine}
 
 -- element i goes, and the last one takes its place
@@ -98,3 +98,15 @@ lines-left dx lines links chains ls m g nl nc hg room held j hj = by (ℕ-discre
         rw (ne-eqb g m ne, e, slot-moved dx lines links m g (omega arith), drop-same [] chains g m nc (omega arith) (omega arith), drop-same [] ls g m nl (omega arith) (omega arith))
         (held m (omega arith) (λ k. ne (sym k)))
     by (no ne) (no ne′) = rw (ne-eqb g m ne, slot-kept dx lines links m g j ne′) (others ne′)
+
+-- words past the slots stay
+pub past-released : (dx h : ℕ) (lines links : List ℕ) (m i : ℕ) → i < h → drop (dx + 2 + 4 * h) (released dx lines links m i) ≡ drop (dx + 2 + 4 * h) lines
+unfolding released moved
+past-released dx h lines links m i k = by (eqb i m)
+  where
+    by : (b : Bool) → drop (dx + 2 + 4 * h) (cond b lines (moved dx lines links m i)) ≡ drop (dx + 2 + 4 * h) lines
+    by true = refl
+    by false =
+        past-filed dx h (set (withSlot dx lines i (firstLink dx lines m) (lastLink dx lines m) (endPoint dx lines m) (linkCount dx lines m)) (columnWord dx (linkPoint links (firstLink dx lines m))) i) (columnWord dx (endPoint dx lines m)) i (omega (arith, column-in-frontier dx (endPoint dx lines m)))
+        ∙ past-filed dx h (withSlot dx lines i (firstLink dx lines m) (lastLink dx lines m) (endPoint dx lines m) (linkCount dx lines m)) (columnWord dx (linkPoint links (firstLink dx lines m))) i (omega (arith, column-in-frontier dx (linkPoint links (firstLink dx lines m))))
+        ∙ past-withSlot dx h lines i (firstLink dx lines m) (lastLink dx lines m) (endPoint dx lines m) (linkCount dx lines m) k

@@ -5,7 +5,7 @@ use mathlib.Core.List.{List, [], _∷_, _++_}
 use Prim.Native.Nat.{ℕ, zero, suc, _+_, _-_, _*_, _%_, _^_, _≤_, _<_}
 use native.Mathlib.Decide.{ℕ-discrete}
 use native.Mathlib.Omega.{arith}
-use lib.ListN.{length, getD, set, length-set, length-append}
+use lib.ListN.{length, getD, set, drop, length-set, length-append}
 use lib.Seq.{getD-set-same, getD-set-other}
 use Rattle.scope.specs.Cells.{Point, indexedPoint, samePoint}
 use Rattle.scope.specs.Stitching as rules
@@ -14,22 +14,29 @@ use Rattle.laws.proofs.Ends.{same-eq, start-of-joined, end-of-joined, end-of-ap
 use Rattle.laws.proofs.Strokes.{Role, begin, finish}
 use Rattle.laws.proofs.Tips.{Tip, tipBy, edgeWord, WordsApart}
 use Rattle.machine.specs.Machine.{mark, wordOf, columnWord, firstLink, lastLink, endPoint, linkCount, linkPoint, withLink, withNext, withSlot, released, Tables, started, appended, prepended, joinedLinks, joinedLines, joined, closedLinks, closed}
-use Rattle.machine.proofs.Views.{slotAt, length-withSlot, length-withNext, length-withLink}
+use Rattle.machine.proofs.Views.{slotAt, length-withSlot, length-withNext, length-withLink, past-filed, past-withSlot, past-withNext, past-withLink}
 use Rattle.machine.proofs.Held.{HeldLine, Held}
 use Rattle.machine.proofs.Removal.{dropAt, length-released}
-use Rattle.machine.proofs.Ops.{append-held, prepend-held, start-held, join-held, close-held}
+use Rattle.machine.proofs.Ops.{last-below, append-held, prepend-held, start-held}
 use Rattle.machine.proofs.Filing.{start-tip, end-tip, starts-is, ends-is, tip-index, word-in-frontier, column-of-even, Filed, Framed, filed-anew, filed-new, filed-left}
 
+-- the words of the two tables past what a build needs
+pub record Kept : Type 0 where
+  pub past-lines : List ℕ
+  pub past-links : List ℕ
+
 -- the tables hold a drawing of n segments; slots for h lines and room for that many links
-pub record Carried (dx h room n : ℕ) (live : Point → Type 0) (d : Drawing) (t : Tables) : Type 0 where
+pub record Carried (dx h room : ℕ) (kept : Kept) (n : ℕ) (live : Point → Type 0) (d : Drawing) (t : Tables) : Type 0 where
   pub chains : List (List ℕ)
   pub loops : List (List ℕ)
   pub held : Held dx n t d chains loops
   pub filed : Filed dx live (t .lines) (d .lines)
   pub lines-long : dx + 2 + 4 * h ≤ length (t .lines)
   pub links-long : 2 * room ≤ length (t .links)
+  pub lines-past : drop (dx + 2 + 4 * h) (t .lines) ≡ kept .past-lines
+  pub links-past : drop (2 * room) (t .links) ≡ kept .past-links
 
-module _ (dx h room n : ℕ) (live live′ : Point → Type 0) (d : Drawing) (t : Tables) (now : Carried dx h room n live d t) (small : n < room) where
+module _ (dx h room : ℕ) (kept : Kept) (n : ℕ) (live live′ : Point → Type 0) (d : Drawing) (t : Tables) (now : Carried dx h room kept n live d t) (small : n < room) where
   pub links-fit : 2 * n + 1 < length (t .links)
   links-fit = omega (arith, now .links-long)
 
@@ -60,13 +67,13 @@ prepended-tips s e l at p ne tip = by (tip .role) (tip .there)
     by begin h = absurd (ne (same-eq p s (unfold startsAt in h)))
     by finish h = record { role = finish; there = sym (end-of-prepended p s e l at) ∙ h }
 
-module _ (dx h room n : ℕ) (live live′ : Point → Type 0) (d : Drawing) (t : Tables) (now : Carried dx h room n live d t) (small : n < room) (s e : ℕ) where
+module _ (dx h room : ℕ) (kept : Kept) (n : ℕ) (live live′ : Point → Type 0) (d : Drawing) (t : Tables) (now : Carried dx h room kept n live d t) (small : n < room) (s e : ℕ) where
   module _ (f : ℕ) (hf : f < length (d .lines)) (fits : f < h) where
     -- ---- append
     pub append-carried : endsAt (indexedPoint dx s) (getD (d .lines) f []) ≡ true
       → ((i : ℕ) → i < length (d .lines) → (p : Point) → Tip p (getD (rules.append d f (indexedPoint dx e) .lines) i []) → live′ p → edgeWord dx p ≡ edgeWord dx (indexedPoint dx e) → i ≡ f)
       → ((i : ℕ) → i < length (d .lines) → (p : Point) → Tip p (getD (rules.append d f (indexedPoint dx e) .lines) i []) → live′ p → (p ≡ indexedPoint dx e → ⊥) → live p)
-      → Carried dx h room (suc n) live′ (rules.append d f (indexedPoint dx e)) (appended dx t n s f e (edgeWord dx (indexedPoint dx e)))
+      → Carried dx h room kept (suc n) live′ (rules.append d f (indexedPoint dx e)) (appended dx t n s f e (edgeWord dx (indexedPoint dx e)))
     append-carried there alone keeps = record {
         chains = _;
         loops = now .loops;
@@ -74,22 +81,33 @@ module _ (dx h room n : ℕ) (live live′ : Point → Type 0) (d : Drawing) (t 
         filed =
             unfold rules.append appended in
             filed-anew dx live live′ (t .lines) (d .lines) f (getD (d .lines) f [] ++ (indexedPoint dx e ∷ [])) (indexedPoint dx e) (firstLink dx (t .lines) f) n e (wordOf (linkCount dx (t .lines) f + 1))
-            hf (frontier-fits dx h room n live live′ d t now small) (now .filed) (framed-by dx (suc n) (appended dx t n s f e (edgeWord dx (indexedPoint dx e))) (rules.append d f (indexedPoint dx e)) _ (now .loops) after)
+            hf (frontier-fits dx h room kept n live live′ d t now small) (now .filed) (framed-by dx (suc n) (appended dx t n s f e (edgeWord dx (indexedPoint dx e))) (rules.append d f (indexedPoint dx e)) _ (now .loops) after)
             (appended-tips (indexedPoint dx s) (indexedPoint dx e) (getD (d .lines) f []) there) alone keeps;
         lines-long = unfold appended in simp (length-set, length-withSlot) (now .lines-long);
-        links-long = unfold appended in simp (length-withNext, length-withLink) (now .links-long)
+        links-long = unfold appended in simp (length-withNext, length-withLink) (now .links-long);
+        lines-past =
+            unfold appended in
+            past-filed dx h (withSlot dx (t .lines) f (firstLink dx (t .lines) f) n e (wordOf (linkCount dx (t .lines) f + 1))) (edgeWord dx (indexedPoint dx e)) f (word-in-frontier dx e)
+            ∙ past-withSlot dx h (t .lines) f (firstLink dx (t .lines) f) n e (wordOf (linkCount dx (t .lines) f + 1)) fits
+            ∙ now .lines-past;
+        links-past =
+            unfold appended in
+            past-withNext room (withLink (t .links) n s 0) (lastLink dx (t .lines) f) n
+              (omega (arith, last-below dx n h t d (now .chains) (now .loops) (now .held) (now .lines-long) (links-fit dx h room kept n live live′ d t now small) f hf))
+            ∙ past-withLink room (t .links) n s 0 small
+            ∙ now .links-past
         }
       where
         at-end : indexedPoint dx s ≡ indexedPoint dx (endPoint dx (t .lines) f)
-        at-end = ends-is dx (t .links) (slotAt dx (t .lines) f) (getD (now .chains) f []) (getD (d .lines) f []) (held-line dx h room n live live′ d t now small f hf) (indexedPoint dx s) there
+        at-end = ends-is dx (t .links) (slotAt dx (t .lines) f) (getD (now .chains) f []) (getD (d .lines) f []) (held-line dx h room kept n live live′ d t now small f hf) (indexedPoint dx s) there
         after : Held dx (suc n) (appended dx t n s f e (edgeWord dx (indexedPoint dx e))) (rules.append d f (indexedPoint dx e)) (set (now .chains) f (getD (now .chains) f [] ++ (n ∷ []))) (now .loops)
-        after = append-held dx n h t d (now .chains) (now .loops) (now .held) (now .lines-long) (links-fit dx h room n live live′ d t now small) f hf s e (edgeWord dx (indexedPoint dx e)) (word-in-frontier dx e) fits at-end
+        after = append-held dx n h t d (now .chains) (now .loops) (now .held) (now .lines-long) (links-fit dx h room kept n live live′ d t now small) f hf s e (edgeWord dx (indexedPoint dx e)) (word-in-frontier dx e) fits at-end
 
     -- ---- prepend
     pub prepend-carried : startsAt (indexedPoint dx e) (getD (d .lines) f []) ≡ true
       → ((i : ℕ) → i < length (d .lines) → (p : Point) → Tip p (getD (rules.prepend d f (indexedPoint dx s) .lines) i []) → live′ p → edgeWord dx p ≡ edgeWord dx (indexedPoint dx s) → i ≡ f)
       → ((i : ℕ) → i < length (d .lines) → (p : Point) → Tip p (getD (rules.prepend d f (indexedPoint dx s) .lines) i []) → live′ p → (p ≡ indexedPoint dx s → ⊥) → live p)
-      → Carried dx h room (suc n) live′ (rules.prepend d f (indexedPoint dx s)) (prepended dx t n s f (edgeWord dx (indexedPoint dx s)))
+      → Carried dx h room kept (suc n) live′ (rules.prepend d f (indexedPoint dx s)) (prepended dx t n s f (edgeWord dx (indexedPoint dx s)))
     prepend-carried there alone keeps = record {
         chains = _;
         loops = now .loops;
@@ -97,14 +115,20 @@ module _ (dx h room n : ℕ) (live live′ : Point → Type 0) (d : Drawing) (t 
         filed =
             unfold rules.prepend prepended in
             filed-anew dx live live′ (t .lines) (d .lines) f (indexedPoint dx s ∷ getD (d .lines) f []) (indexedPoint dx s) n (lastLink dx (t .lines) f) (endPoint dx (t .lines) f) (wordOf (linkCount dx (t .lines) f + 1))
-            hf (frontier-fits dx h room n live live′ d t now small) (now .filed) (framed-by dx (suc n) (prepended dx t n s f (edgeWord dx (indexedPoint dx s))) (rules.prepend d f (indexedPoint dx s)) _ (now .loops) after)
+            hf (frontier-fits dx h room kept n live live′ d t now small) (now .filed) (framed-by dx (suc n) (prepended dx t n s f (edgeWord dx (indexedPoint dx s))) (rules.prepend d f (indexedPoint dx s)) _ (now .loops) after)
             (prepended-tips (indexedPoint dx s) (indexedPoint dx e) (getD (d .lines) f []) there) alone keeps;
         lines-long = unfold prepended in simp (length-set, length-withSlot) (now .lines-long);
-        links-long = unfold prepended in simp length-withLink (now .links-long)
+        links-long = unfold prepended in simp length-withLink (now .links-long);
+        lines-past =
+            unfold prepended in
+            past-filed dx h (withSlot dx (t .lines) f n (lastLink dx (t .lines) f) (endPoint dx (t .lines) f) (wordOf (linkCount dx (t .lines) f + 1))) (edgeWord dx (indexedPoint dx s)) f (word-in-frontier dx s)
+            ∙ past-withSlot dx h (t .lines) f n (lastLink dx (t .lines) f) (endPoint dx (t .lines) f) (wordOf (linkCount dx (t .lines) f + 1)) fits
+            ∙ now .lines-past;
+        links-past = unfold prepended in past-withLink room (t .links) n s (firstLink dx (t .lines) f) small ∙ now .links-past
         }
       where
         after : Held dx (suc n) (prepended dx t n s f (edgeWord dx (indexedPoint dx s))) (rules.prepend d f (indexedPoint dx s)) (set (now .chains) f (n ∷ getD (now .chains) f [])) (now .loops)
-        after = prepend-held dx n h t d (now .chains) (now .loops) (now .held) (now .lines-long) (links-fit dx h room n live live′ d t now small) f hf s (edgeWord dx (indexedPoint dx s)) (word-in-frontier dx s) fits
+        after = prepend-held dx n h t d (now .chains) (now .loops) (now .held) (now .lines-long) (links-fit dx h room kept n live live′ d t now small) f hf s (edgeWord dx (indexedPoint dx s)) (word-in-frontier dx s) fits
 
   -- ---- start
   start-tips : (a b p : Point) → Tip p (a ∷ b ∷ []) → (p ≡ a → ⊥) → p ≡ b
@@ -117,7 +141,7 @@ module _ (dx h room n : ℕ) (live live′ : Point → Type 0) (d : Drawing) (t 
   pub start-carried : length (d .lines) < h → length (d .lines) + 1 < 2 ^ 32
     → ((i : ℕ) → i < length (d .lines) → (p : Point) → Tip p (getD (d .lines) i []) → (edgeWord dx p ≡ edgeWord dx (indexedPoint dx s) → ⊥) × (edgeWord dx p ≡ edgeWord dx (indexedPoint dx e) → ⊥))
     → ((i : ℕ) → i < length (d .lines) → (p : Point) → Tip p (getD (d .lines) i []) → live′ p → live p)
-    → Carried dx h room (suc n) live′ (rules.start d (indexedPoint dx s) (indexedPoint dx e)) (started dx t n s e (edgeWord dx (indexedPoint dx s)) (edgeWord dx (indexedPoint dx e)))
+    → Carried dx h room kept (suc n) live′ (rules.start d (indexedPoint dx s) (indexedPoint dx e)) (started dx t n s e (edgeWord dx (indexedPoint dx s)) (edgeWord dx (indexedPoint dx e)))
   start-carried fits fits′ alone keeps = record {
       chains = _;
       loops = now .loops;
@@ -125,12 +149,19 @@ module _ (dx h room n : ℕ) (live live′ : Point → Type 0) (d : Drawing) (t 
       filed =
           unfold rules.start started in
           subst (λ (k : ℕ). Filed dx live′ (set (set (withSlot dx (t .lines) k n n e 1) (edgeWord dx (indexedPoint dx s)) k) (edgeWord dx (indexedPoint dx e)) k) (d .lines ++ ((indexedPoint dx s ∷ indexedPoint dx e ∷ []) ∷ []))) (sym (now .held .count-is))
-          (filed-new dx live live′ (t .lines) (d .lines) (indexedPoint dx s ∷ indexedPoint dx e ∷ []) (indexedPoint dx s) (indexedPoint dx e) n n e 1 (frontier-fits dx h room n live live′ d t now small) (now .filed)
+          (filed-new dx live live′ (t .lines) (d .lines) (indexedPoint dx s ∷ indexedPoint dx e ∷ []) (indexedPoint dx s) (indexedPoint dx e) n n e 1 (frontier-fits dx h room kept n live live′ d t now small) (now .filed)
           (unfold rules.start in framed-by dx (suc n) (started dx t n s e (edgeWord dx (indexedPoint dx s)) (edgeWord dx (indexedPoint dx e))) (rules.start d (indexedPoint dx s) (indexedPoint dx e)) _ (now .loops) after)
           (start-tips (indexedPoint dx s) (indexedPoint dx e)) alone keeps (word-in-frontier dx s, word-in-frontier dx e));
       lines-long = unfold started in simp (length-set, length-withSlot) (now .lines-long);
-      links-long = unfold started in simp length-withLink (now .links-long)
+      links-long = unfold started in simp length-withLink (now .links-long);
+      lines-past =
+          unfold started in
+          past-filed dx h (set (withSlot dx (t .lines) (t .progress .count) n n e 1) (edgeWord dx (indexedPoint dx s)) (t .progress .count)) (edgeWord dx (indexedPoint dx e)) (t .progress .count) (word-in-frontier dx e)
+          ∙ past-filed dx h (withSlot dx (t .lines) (t .progress .count) n n e 1) (edgeWord dx (indexedPoint dx s)) (t .progress .count) (word-in-frontier dx s)
+          ∙ past-withSlot dx h (t .lines) (t .progress .count) n n e 1 (omega (arith, now .held .count-is))
+          ∙ now .lines-past;
+      links-past = unfold started in past-withLink room (t .links) n s 0 small ∙ now .links-past
       }
     where
       after : Held dx (suc n) (started dx t n s e (edgeWord dx (indexedPoint dx s)) (edgeWord dx (indexedPoint dx e))) (rules.start d (indexedPoint dx s) (indexedPoint dx e)) (now .chains ++ ((n ∷ []) ∷ [])) (now .loops)
-      after = start-held dx n h t d (now .chains) (now .loops) (now .held) (now .lines-long) (links-fit dx h room n live live′ d t now small) s e (edgeWord dx (indexedPoint dx s)) (edgeWord dx (indexedPoint dx e)) (word-in-frontier dx s) (word-in-frontier dx e) fits fits′
+      after = start-held dx n h t d (now .chains) (now .loops) (now .held) (now .lines-long) (links-fit dx h room kept n live live′ d t now small) s e (edgeWord dx (indexedPoint dx s)) (edgeWord dx (indexedPoint dx e)) (word-in-frontier dx s) (word-in-frontier dx e) fits fits′

@@ -4,8 +4,8 @@ use mathlib.Core.Path.{_≡_, refl, sym, _∙_, ap}
 use mathlib.Core.List.{List}
 use Prim.Native.Nat.{ℕ, zero, suc, _+_, _-_, _*_, _≤_, _<_}
 use native.Mathlib.Omega.{arith}
-use lib.ListN.{length, getD, set, length-set}
-use lib.Seq.{getD-set-same, getD-set-other}
+use lib.ListN.{length, getD, set, drop, length-set}
+use lib.Seq.{getD-set-same, getD-set-other, drop-set-lt}
 use Rattle.machine.specs.Machine.{slotWord, firstLink, lastLink, endPoint, linkCount, linkPoint, linkNext, withNext, withLink, withSlot}
 
 -- the parts of a slot that say which line it holds
@@ -142,3 +142,24 @@ module _ (links : List ℕ) (k p n : ℕ) where
   pub next-of-old : (l : ℕ) → (l ≡ k → ⊥) → linkNext (withLink links k p n) l ≡ linkNext links l
   unfolding withLink linkNext
   next-of-old l ne = next-of-other (set links (2 * k) p) k n l ne ∙ elsewhere links (2 * k) (2 * l + 1) p (λ e. omega arith)
+
+-- ---- words past a number of them stay
+
+pub past-filed : (dx h : ℕ) (lines : List ℕ) (w v : ℕ) → w < dx + 2 → drop (dx + 2 + 4 * h) (set lines w v) ≡ drop (dx + 2 + 4 * h) lines
+past-filed dx h lines w v k = drop-set-lt (dx + 2 + 4 * h) lines w v (omega arith)
+
+pub past-withSlot : (dx h : ℕ) (lines : List ℕ) (i a b e z : ℕ) → i < h → drop (dx + 2 + 4 * h) (withSlot dx lines i a b e z) ≡ drop (dx + 2 + 4 * h) lines
+unfolding withSlot slotWord four three two one
+past-withSlot dx h lines i a b e z k =
+    drop-set-lt (dx + 2 + 4 * h) (three lines (dx + 2 + 4 * i) a b e z) (dx + 2 + 4 * i + 3) z (omega arith)
+    ∙ drop-set-lt (dx + 2 + 4 * h) (two lines (dx + 2 + 4 * i) a b e z) (dx + 2 + 4 * i + 2) e (omega arith)
+    ∙ drop-set-lt (dx + 2 + 4 * h) (one lines (dx + 2 + 4 * i) a b e z) (dx + 2 + 4 * i + 1) b (omega arith)
+    ∙ drop-set-lt (dx + 2 + 4 * h) lines (dx + 2 + 4 * i + 0) a (omega arith)
+
+pub past-withNext : (room : ℕ) (links : List ℕ) (k v : ℕ) → k < room → drop (2 * room) (withNext links k v) ≡ drop (2 * room) links
+unfolding withNext
+past-withNext room links k v h = drop-set-lt (2 * room) links (2 * k + 1) v (omega arith)
+
+pub past-withLink : (room : ℕ) (links : List ℕ) (k p n : ℕ) → k < room → drop (2 * room) (withLink links k p n) ≡ drop (2 * room) links
+unfolding withLink
+past-withLink room links k p n h = past-withNext room (set links (2 * k) p) k n h ∙ drop-set-lt (2 * room) links (2 * k) p (omega arith)

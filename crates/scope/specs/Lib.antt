@@ -11,4 +11,5 @@ pub mod Contour
 pub mod Band
 pub mod Smoothing
 pub mod Room
+pub mod Tables
 pub mod Dozen

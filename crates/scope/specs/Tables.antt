@@ -1,0 +1,26 @@
+-- The output tables: points packed in record order, and directory records. Assumes nothing.
+use Prim.Native.Nat.{ℕ, suc, _+_}
+use mathlib.Core.List.{List, [], _∷_, _++_, map}
+use lib.ListN.{length}
+use Rattle.scope.specs.Cells.{Point}
+use Rattle.scope.specs.Stitching.{Line}
+use Rattle.scope.specs.Contour.{Fate, line, classWord, ownerWord}
+
+-- a ring's points as words X, Y, X, Y, and so on
+unfoldable pub ringWords : Line → List ℕ
+ringWords [] = []
+ringWords (p ∷ l) = p .x ∷ p .y ∷ ringWords l
+
+-- the points of all rings, packed
+unfoldable pub packedPoints : List Line → List ℕ
+packedPoints [] = []
+packedPoints (ring ∷ rings) = ringWords ring ++ packedPoints rings
+
+-- a record: first point, point count, class, owner; k is the record's own number
+unfoldable pub recordOf : ℕ → ℕ → Line → Fate → List ℕ
+recordOf k first ring fate = first ∷ length ring ∷ classWord fate ∷ ownerWord k fate ∷ []
+
+-- the records of bare rings, numbered from k, whose points begin at the point of number first
+unfoldable pub bareRecords : ℕ → ℕ → List Line → List ℕ
+bareRecords k first [] = []
+bareRecords k first (ring ∷ rings) = recordOf k first ring line ++ bareRecords (suc k) (first + length ring) rings
