@@ -36,6 +36,7 @@ find-side role c r p free (stroke ∷ strokes) h u = by (samePoint p (pointBy ro
   where
     wider : Found (leaving free stroke) role c r p → Found free role c r p
     wider (found-at d k e) = found-at d (and-left (free role d) (not (sameSide d (sideBy role stroke))) k) e
+
     by : (b : Bool) → samePoint p (pointBy role (placed c r stroke)) ≡ b → (1 ≤ marked role (map (placed c r) strokes) p → Found (leaving free stroke) role c r p) → Found free role c r p
     by true e ih = found-at (sideBy role stroke) (head-fits free stroke strokes h role) (same-eq p (pointBy role (placed c r stroke)) e ∙ point-of-stroke role c r stroke)
     by false e ih = wider (ih (omega (arith, ap (when 1) e)))
@@ -102,6 +103,7 @@ module _ (A : Sheet) {dx dy : ℕ} (out : Outside A dx dy) (r c : ℕ) (hc : c �
       next : Dec (suc y < r) → suc y ≡ r
       next (yes k) = absurd (away (above hx k))
       next (no k) = omega arith
+
       back : Dec (x < c) → c ≤ x
       back (yes k) = absurd (away (before (next (decLt (suc y) r)) k))
       back (no k) = omega arith
@@ -123,9 +125,11 @@ module _ (A : Sheet) {dx dy : ℕ} (out : Outside A dx dy) (r c : ℕ) (hc : c �
       both? (yes x) (yes y) = yes (x, y)
       both? (yes x) (no y) = no (λ w. y (w .1))
       both? (no x) y = no (λ w. x (w .0))
+
       neither : (((k .column ≤ dx) × (k .row < r)) → ⊥) → (((k .row ≡ r) × (k .column < c)) → ⊥) → Visited k → ⊥
       neither x y (above hx hy) = x (hx, hy)
       neither x y (before hy hx) = y (hy, hx)
+
       by : Dec ((k .column ≤ dx) × (k .row < r)) → Dec ((k .row ≡ r) × (k .column < c)) → Dec (Visited k)
       by (yes w) y = yes (above (w .0) (w .1))
       by (no x) (yes w) = yes (before (w .0) (w .1))
@@ -144,6 +148,7 @@ module _ (A : Sheet) {dx dy : ℕ} (out : Outside A dx dy) (r c : ℕ) (hc : c �
           edge role p x y d seen
           (λ next. absurd (omega (arith, seen-across role p x y d h e, count-there (other role) p (neighbour x y d) (ap (homeOf (other role) A) e ∙ home-there A out role x y d h) next)))
           h e
+
       by : (x y : ℕ) → homeOf role A p ≡ cell x y → Dec (Visited (cell x y)) → OnFrontier dx r c p
       by x y q (no away) = absurd (omega (arith, none-there role p (cell x y) q away))
       by x y q (yes seen) =

@@ -115,8 +115,14 @@ module _ (A : Sheet) {dx dy : ℕ} (out : Outside A dx dy) where
   rows-grow : (r k : ℕ) → length (segmentsAfter A dx r (suc dx)) ≤ length (segmentsAfter A dx (r + k) (suc dx))
   rows-grow r zero = omega (arith, ap (λ (n : ℕ). length (segmentsAfter A dx n (suc dx))) (add-zero r))
   rows-grow r (suc k) =
-      omega (arith, rows-grow r k, ap length (next-row (r + k)), row-grows (suc (r + k)) 0 (suc dx), ap (λ (n : ℕ). length (segmentsAfter A dx (suc (r + k)) n)) (zero-add (suc dx)),
-        ap (λ (n : ℕ). length (segmentsAfter A dx n (suc dx))) (add-suc r k))
+      omega (
+        arith,
+        rows-grow r k,
+        ap length (next-row (r + k)),
+        row-grows (suc (r + k)) 0 (suc dx),
+        ap (λ (n : ℕ). length (segmentsAfter A dx (suc (r + k)) n)) (zero-add (suc dx)),
+        ap (λ (n : ℕ). length (segmentsAfter A dx n (suc dx))) (add-suc r k),
+      )
 
   pub segments-are-no-more : (r c : ℕ) → r ≤ dy → c ≤ suc dx → length (segmentsAfter A dx r c) ≤ segmentCount A dx dy
   unfolding segmentCount segmentsOf
@@ -125,6 +131,7 @@ module _ (A : Sheet) {dx dy : ℕ} (out : Outside A dx dy) where
     where
       columns : c + (suc dx - c) ≡ suc dx
       columns = omega arith
+
       rows : r + (dy - r) ≡ dy
       rows = omega arith
 

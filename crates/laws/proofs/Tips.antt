@@ -56,13 +56,13 @@ module _ (d : Drawing) (σs : List Segment) (balanced : Balanced d σs) (once : 
   has-line i hi p tip = omega (arith, total-at (tally (tipBy (tip .role) p)) (d .lines) i [] hi, ap (when 1) (tip .there))
 
   same-role : (role : Role) (i j : ℕ) → i < length (d .lines) → j < length (d .lines) → (p : Point)
-    → tipBy role p (getD (d .lines) i []) ≡ true → tipBy role p (getD (d .lines) j []) ≡ true → (j ≡ i → ⊥) → ⊥
+      → tipBy role p (getD (d .lines) i []) ≡ true → tipBy role p (getD (d .lines) j []) ≡ true → (j ≡ i → ⊥) → ⊥
   same-role role i j hi hj p s t ne =
       unfold lines-by in
       omega (arith, total-two (tally (tipBy role p)) (d .lines) i j [] hi hj ne, ap (when 1) s, ap (when 1) t, lines-are role p, once role p)
 
   both-roles : (i j : ℕ) → i < length (d .lines) → j < length (d .lines) → (p : Point)
-    → startsAt p (getD (d .lines) i []) ≡ true → endsAt p (getD (d .lines) j []) ≡ true → ⊥
+      → startsAt p (getD (d .lines) i []) ≡ true → endsAt p (getD (d .lines) j []) ≡ true → ⊥
   both-roles i j hi hj p s t =
       omega (arith, has-line i hi p (record { role = begin; there = s }), has-line j hj p (record { role = finish; there = t }), lines-are begin p, lines-are finish p)
 
@@ -74,6 +74,7 @@ module _ (d : Drawing) (σs : List Segment) (balanced : Balanced d σs) (once : 
       one begin finish u v ne = both-roles i j hi hj p u v
       one finish begin u v ne = both-roles j i hj hi p v u
       one finish finish u v ne = same-role finish i j hi hj p u v ne
+
       by : Dec (j ≡ i) → i ≡ j
       by (yes e) = sym e
       by (no ne) = absurd (one (s .role) (t .role) (s .there) (t .there) ne)

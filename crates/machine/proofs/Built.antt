@@ -63,7 +63,7 @@ module _ (A : Sheet) {dx dy : ℕ} (out : Outside A dx dy) where
 
   -- the run over tables that have the reported room
   module _ (lines links : List ℕ) (lines-fit : openWords dx (peak A dx dy) ≤ length lines) (links-fit : linkWords (segmentCount A dx dy) ≤ length links)
-    (numbers : segmentCount A dx dy ≤ mark) (small : peak A dx dy < 2 ^ 32) where
+      (numbers : segmentCount A dx dy ≤ mark) (small : peak A dx dy < 2 ^ 32) where
     abbrev after : Tables
     after = runAfter A dx (runOver lines links) dy (suc dx) .tables
 
@@ -106,7 +106,7 @@ module _ (A : Sheet) {dx dy : ℕ} (out : Outside A dx dy) where
     points-found hx hy =
         subst (λ (n : ℕ). walkPoints dx (after .links) (after .progress .head) (after .progress .head) n ≡ packedPoints (ringsOf A dx dy)) links-are
         (points-walked dx (after .links) (after .progress .head) (holds .loops) (ringsOf A dx dy) (after .progress .tail) held-rings links-below
-          (rings-small dx dy hx hy (ringsOf A dx dy) (unfold ringsOf in rings-are-rings A out dy (suc dx) (omega arith) (omega arith))))
+        (rings-small dx dy hx hy (ringsOf A dx dy) (unfold ringsOf in rings-are-rings A out dy (suc dx) (omega arith) (omega arith))))
 
     pub records-found : segmentCount A dx dy + ringCount A dx dy < 2 ^ 32 → walkRecords (after .links) 0 0 (after .progress .head) (segmentCount A dx dy) ≡ bareRecords 0 0 (ringsOf A dx dy)
     records-found fits =

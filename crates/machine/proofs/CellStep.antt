@@ -99,11 +99,25 @@ module _ (A : Sheet) {dx dy : ℕ} (out : Outside A dx dy) (r c : ℕ) (hc : c �
     line-there : (role : Role) (d : Near) → onSide role A c r (near d) ≡ true → 1 ≤ total (tally (tipBy (other role) (pointOf c r (near d)))) lines₀
     unfolding ends starts
     line-there begin d h =
-        omega (arith, sound .balanced .at-ends (pointOf c r (near d)), marked-ended before (pointOf c r (near d)), marked-begun before (pointOf c r (near d)),
-          ready₀ .shared-side begin (near d) h, ready₀ .unmarked-side begin (near d) h, near-finished d)
+        omega (
+          arith,
+          sound .balanced .at-ends (pointOf c r (near d)),
+          marked-ended before (pointOf c r (near d)),
+          marked-begun before (pointOf c r (near d)),
+          ready₀ .shared-side begin (near d) h,
+          ready₀ .unmarked-side begin (near d) h,
+          near-finished d,
+        )
     line-there finish d h =
-        omega (arith, sound .balanced .at-starts (pointOf c r (near d)), marked-ended before (pointOf c r (near d)), marked-begun before (pointOf c r (near d)),
-          ready₀ .shared-side finish (near d) h, ready₀ .unmarked-side finish (near d) h, near-finished d)
+        omega (
+          arith,
+          sound .balanced .at-starts (pointOf c r (near d)),
+          marked-ended before (pointOf c r (near d)),
+          marked-begun before (pointOf c r (near d)),
+          ready₀ .shared-side finish (near d) h,
+          ready₀ .unmarked-side finish (near d) h,
+          near-finished d,
+        )
 
     filed-slot : (d : Near) → slotOf entry d ≡ getD (t .lines) (sideWord dx c (near d)) 0
     unfolding entryOf sideWord
@@ -119,6 +133,7 @@ module _ (A : Sheet) {dx dy : ℕ} (out : Outside A dx dy) (r c : ℕ) (hc : c �
       where
         i : ℕ
         i = find (tipBy (other role) (pointOf c r (near d))) lines₀
+
         inside : i < length lines₀
         inside = some-line (tipBy (other role) (pointOf c r (near d))) lines₀ (line-there role d k)
 
@@ -151,20 +166,20 @@ module _ (A : Sheet) {dx dy : ℕ} (out : Outside A dx dy) (r c : ℕ) (hc : c �
       words role d k = ap (edgeWord dx) (back d) ∙ word-of role d k
 
       pub onward-first : (live′ : Point → Type 0) (s : Near) (e : Far) → onSide begin A c r (near s) ≡ true → onSide finish A c r (far e) ≡ true
-        → ((i : ℕ) → i < length (stitchAll nothing (with-stroke (near s) (far e)) .lines) → (p : Point) → Tip p (getD (stitchAll nothing (with-stroke (near s) (far e)) .lines) i []) → live′ p → edgeWord dx p ≡ edgeWord dx (indexedPoint dx (index (far e))) → i ≡ slotOf entry s)
-        → Carried dx h room kept (suc (length before)) live′ (stitchAll nothing (with-stroke (near s) (far e))) (drawStroke dx c entry t (near s ⟶ far e) (length before) (index (near s)) (index (far e)))
+          → ((i : ℕ) → i < length (stitchAll nothing (with-stroke (near s) (far e)) .lines) → (p : Point) → Tip p (getD (stitchAll nothing (with-stroke (near s) (far e)) .lines) i []) → live′ p → edgeWord dx p ≡ edgeWord dx (indexedPoint dx (index (far e))) → i ≡ slotOf entry s)
+          → Carried dx h room kept (suc (length before)) live′ (stitchAll nothing (with-stroke (near s) (far e))) (drawStroke dx c entry t (near s ⟶ far e) (length before) (index (near s)) (index (far e)))
       onward-first live′ s e hs he alone =
           rw (draw-onward dx c entry t s e (length before) (index (near s)) (index (far e)), ← words finish (far e) he)
           (append-drawn dx h room kept before (index (near s)) (index (far e)) (onFinished (near s)) (onFinished (far e)) sound (fresh-at (near s) (far e) hs he) small all live′ t now
-            (far-finished e) (slotOf entry s) (slot-inside begin s hs) (omega (arith, slot-inside begin s hs)) (tip-at begin s hs) alone (λ i hi p tip l ne. tt))
+          (far-finished e) (slotOf entry s) (slot-inside begin s hs) (omega (arith, slot-inside begin s hs)) (tip-at begin s hs) alone (λ i hi p tip l ne. tt))
 
       pub backward-first : (live′ : Point → Type 0) (s : Far) (e : Near) → onSide begin A c r (far s) ≡ true → onSide finish A c r (near e) ≡ true
-        → ((i : ℕ) → i < length (stitchAll nothing (with-stroke (far s) (near e)) .lines) → (p : Point) → Tip p (getD (stitchAll nothing (with-stroke (far s) (near e)) .lines) i []) → live′ p → edgeWord dx p ≡ edgeWord dx (indexedPoint dx (index (far s))) → i ≡ slotOf entry e)
-        → Carried dx h room kept (suc (length before)) live′ (stitchAll nothing (with-stroke (far s) (near e))) (drawStroke dx c entry t (far s ⟶ near e) (length before) (index (far s)) (index (near e)))
+          → ((i : ℕ) → i < length (stitchAll nothing (with-stroke (far s) (near e)) .lines) → (p : Point) → Tip p (getD (stitchAll nothing (with-stroke (far s) (near e)) .lines) i []) → live′ p → edgeWord dx p ≡ edgeWord dx (indexedPoint dx (index (far s))) → i ≡ slotOf entry e)
+          → Carried dx h room kept (suc (length before)) live′ (stitchAll nothing (with-stroke (far s) (near e))) (drawStroke dx c entry t (far s ⟶ near e) (length before) (index (far s)) (index (near e)))
       backward-first live′ s e hs he alone =
           rw (draw-backward dx c entry t s e (length before) (index (far s)) (index (near e)), ← words begin (far s) hs)
           (prepend-drawn dx h room kept before (index (far s)) (index (near e)) (onFinished (far s)) (onFinished (near e)) sound (fresh-at (far s) (near e) hs he) small all live′ t now
-            (far-finished s) (slotOf entry e) (slot-inside finish e he) (omega (arith, slot-inside finish e he)) (tip-at finish e he) alone (λ i hi p tip l ne. tt))
+          (far-finished s) (slotOf entry e) (slot-inside finish e he) (omega (arith, slot-inside finish e he)) (tip-at finish e he) alone (λ i hi p tip l ne. tt))
 
       -- ---- a stroke between the two near sides: what is left open lies on columns
       module _ (s : Near) (hs : onSide begin A c r (near s) ≡ true) (he : onSide finish A c r (near (opposite s)) ≡ true) where
@@ -207,11 +222,12 @@ module _ (A : Sheet) {dx dy : ℕ} (out : Outside A dx dy) (r c : ℕ) (hc : c �
         columns-left : Columns left-open
         columns-left i hi p tip odd =
             by (half-reached A out r c (omega arith) (tip .role) p
-              (omega (arith, reached .0, more (tip .role) p, ap (when 1) (not-either i hi p tip (tip .role))))
-              (omega (arith, reached .1, more (other (tip .role)) p)))
+            (omega (arith, reached .0, more (tip .role) p, ap (when 1) (not-either i hi p tip (tip .role))))
+            (omega (arith, reached .1, more (other (tip .role)) p)))
           where
             reached : (1 ≤ marked (tip .role) (with-stroke (near s) (near (opposite s))) p) × (marked (other (tip .role)) (with-stroke (near s) (near (opposite s))) p ≡ 0)
             reached = tip-reached (stitchAll nothing (with-stroke (near s) (near (opposite s)))) (with-stroke (near s) (near (opposite s))) (sound-met .balanced) (sound-met .once) i hi p tip
+
             by : OnFrontier dx r c p → ⊥
             by (lower k hk hd q) = unfold pointOf in omega (arith, ap (λ (a : Point). a .x) q)
             by (upper k hk hd h′ q) = unfold pointOf in omega (arith, ap (λ (a : Point). a .x) q)
@@ -222,17 +238,17 @@ module _ (A : Sheet) {dx dy : ℕ} (out : Outside A dx dy) (r c : ℕ) (hc : c �
         met-tables b = cond b (closed dx t (length before) (index (near s)) (slotOf entry s)) (joined dx t (length before) (index (near s)) (slotOf entry s) (slotOf entry (opposite s)))
 
         pub meeting-first : WordsApart dx lines₀ → room ≤ mark → length (now .loops) ≤ length before
-          → Carried dx h room kept (suc (length before)) all (stitchAll nothing (with-stroke (near s) (near (opposite s)))) (met-tables (eqb (slotOf entry s) (slotOf entry (opposite s))))
+            → Carried dx h room kept (suc (length before)) all (stitchAll nothing (with-stroke (near s) (near (opposite s)))) (met-tables (eqb (slotOf entry s) (slotOf entry (opposite s))))
         meeting-first apart numbers few = by (ℕ-discrete (slotOf entry s) (slotOf entry (opposite s)))
           where
             by : Dec (slotOf entry s ≡ slotOf entry (opposite s)) → Carried dx h room kept (suc (length before)) all (stitchAll nothing (with-stroke (near s) (near (opposite s)))) (met-tables (eqb (slotOf entry s) (slotOf entry (opposite s))))
             by (yes q) =
                 rw (eq-eqb (slotOf entry s) (slotOf entry (opposite s)) q)
                 (close-drawn dx h room kept before (index (near s)) (index (near (opposite s))) (onFinished (near s)) (onFinished (near (opposite s))) sound (fresh-at (near s) (near (opposite s)) hs he) small t now low apart columns-left
-                  (slotOf entry s) (slot-inside begin s hs) (tip-at begin s hs)
-                  (subst (λ (n : ℕ). startsAt (indexedPoint dx (index (near (opposite s)))) (getD lines₀ n []) ≡ true) (sym q) (tip-at finish (opposite s) he))
-                  (omega arith) (unfold mark in omega arith))
+                (slotOf entry s) (slot-inside begin s hs) (tip-at begin s hs)
+                (subst (λ (n : ℕ). startsAt (indexedPoint dx (index (near (opposite s)))) (getD lines₀ n []) ≡ true) (sym q) (tip-at finish (opposite s) he))
+                (omega arith) (unfold mark in omega arith))
             by (no q) =
                 rw (ne-eqb (slotOf entry s) (slotOf entry (opposite s)) q)
                 (join-drawn dx h room kept before (index (near s)) (index (near (opposite s))) (onFinished (near s)) (onFinished (near (opposite s))) sound (fresh-at (near s) (near (opposite s)) hs he) small t now low apart columns-left
-                  (slotOf entry s) (slotOf entry (opposite s)) (slot-inside begin s hs) (slot-inside finish (opposite s) he) q (tip-at begin s hs) (tip-at finish (opposite s) he))
+                (slotOf entry s) (slotOf entry (opposite s)) (slot-inside begin s hs) (slot-inside finish (opposite s) he) q (tip-at begin s hs) (tip-at finish (opposite s) he))

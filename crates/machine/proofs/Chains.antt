@@ -52,14 +52,15 @@ not-last next x b z l h once e =
 
 -- the last link may hold anything
 pub linked-but-last : (next next′ : ℕ → ℕ) (a : ℕ) (l : List ℕ) (z : ℕ) → Linked next a l z → uses z l ≤ 1
-  → ((x : ℕ) → (x ≡ z → ⊥) → 1 ≤ uses x l → next′ x ≡ next x) → Linked next′ a l z
+    → ((x : ℕ) → (x ≡ z → ⊥) → 1 ≤ uses x l → next′ x ≡ next x) → Linked next′ a l z
 linked-but-last next next′ a [] z h once same = h
 linked-but-last next next′ a (x ∷ []) z h once same = h
-linked-but-last next next′ a (x ∷ y ∷ l) z h once same =
-    (h .0,
-    linked-but-last next next′ (next′ x) (y ∷ l) z (moved (sym (same x (not-last next x (next x) z (y ∷ l) (h .1) once) (uses-self x (y ∷ l)))) (h .1))
+linked-but-last next next′ a (x ∷ y ∷ l) z h once same = (
+  h .0,
+  linked-but-last next next′ (next′ x) (y ∷ l) z (moved (sym (same x (not-last next x (next x) z (y ∷ l) (h .1) once) (uses-self x (y ∷ l)))) (h .1))
       (omega (arith, uses-cons z x (y ∷ l)))
-      (λ k ne used. same k ne (omega (arith, uses-cons k x (y ∷ l)))))
+      (λ k ne used. same k ne (omega (arith, uses-cons k x (y ∷ l)))),
+)
   where
     moved : {b b′ : ℕ} → b ≡ b′ → Linked next b (y ∷ l) z → Linked next b′ (y ∷ l) z
     moved e k = rw (← e) k

@@ -47,11 +47,11 @@ module _ (links : List ℕ) (k s v z : ℕ) (new-fits : 2 * k + 1 < length links
 
 -- a chain with link k behind its last link, spelled: one point more
 module _ (dx : ℕ) (links links′ : List ℕ) (chain : List ℕ) (first last k s : ℕ)
-  (linked : Linked (linkNext links) first chain last) (single : uses last chain ≤ 1)
-  (point-new : linkPoint links′ k ≡ s)
-  (points : (x : ℕ) → 1 ≤ uses x chain → linkPoint links′ x ≡ linkPoint links x)
-  (nexts : (x : ℕ) → 1 ≤ uses x chain → (x ≡ last → ⊥) → linkNext links′ x ≡ linkNext links x)
-  (told : linkNext links′ last ≡ k) where
+    (linked : Linked (linkNext links) first chain last) (single : uses last chain ≤ 1)
+    (point-new : linkPoint links′ k ≡ s)
+    (points : (x : ℕ) → 1 ≤ uses x chain → linkPoint links′ x ≡ linkPoint links x)
+    (nexts : (x : ℕ) → 1 ≤ uses x chain → (x ≡ last → ⊥) → linkNext links′ x ≡ linkNext links x)
+    (told : linkNext links′ last ≡ k) where
   pub chain-longer : (rest : List ℕ) (end : ℕ) → Linked (linkNext links′) k (k ∷ rest) end → Linked (linkNext links′) first (chain ++ (k ∷ rest)) end
   chain-longer rest end h =
       linked-join (linkNext links′) first chain last k (k ∷ rest) end

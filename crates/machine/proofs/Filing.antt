@@ -94,24 +94,28 @@ Framed dx ls = (i : ℕ) → i < length ls → (p : Point) → Tip p (getD ls i 
 
 -- slot f stored anew, and a new tip filed under its word
 module _ (dx : ℕ) (live live′ : Point → Type 0) (table : List ℕ) (ls : List Line) (f : ℕ) (line′ : Line) (tip : Point) (a b e z : ℕ)
-  (inside : f < length ls) (room : dx + 2 ≤ length table) (filed : Filed dx live table ls) (framed : Framed dx (set ls f line′))
-  (old-tips : (p : Point) → (p ≡ tip → ⊥) → Tip p line′ → Tip p (getD ls f []))
-  (alone : (i : ℕ) → i < length ls → (p : Point) → Tip p (getD (set ls f line′) i []) → live′ p → edgeWord dx p ≡ edgeWord dx tip → i ≡ f)
-  (keeps : (i : ℕ) → i < length ls → (p : Point) → Tip p (getD (set ls f line′) i []) → live′ p → (p ≡ tip → ⊥) → live p) where
+    (inside : f < length ls) (room : dx + 2 ≤ length table) (filed : Filed dx live table ls) (framed : Framed dx (set ls f line′))
+    (old-tips : (p : Point) → (p ≡ tip → ⊥) → Tip p line′ → Tip p (getD ls f []))
+    (alone : (i : ℕ) → i < length ls → (p : Point) → Tip p (getD (set ls f line′) i []) → live′ p → edgeWord dx p ≡ edgeWord dx tip → i ≡ f)
+    (keeps : (i : ℕ) → i < length ls → (p : Point) → Tip p (getD (set ls f line′) i []) → live′ p → (p ≡ tip → ⊥) → live p) where
   pub filed-anew : Filed dx live′ (set (withSlot dx table f a b e z) (edgeWord dx tip) f) (set ls f line′)
   filed-anew i hi p t l = by (ℕ-discrete (edgeWord dx p) (edgeWord dx tip)) (ℕ-discrete i f)
     where
       below : i < length ls
       below = subst (λ (n : ℕ). i < n) (length-set ls f line′) hi
+
       word : edgeWord dx p < dx + 2
       word = framed i hi p t
+
       other-point : (edgeWord dx p ≡ edgeWord dx tip → ⊥) → p ≡ tip → ⊥
       other-point ne q = ne (ap (edgeWord dx) q)
+
       before : (edgeWord dx p ≡ edgeWord dx tip → ⊥) → Tip p (getD ls i []) → getD (set (withSlot dx table f a b e z) (edgeWord dx tip) f) (edgeWord dx p) 0 ≡ i
       before ne was =
           getD-set-other (withSlot dx table f a b e z) (edgeWord dx tip) (edgeWord dx p) f 0 ne
           ∙ frontier-of-withSlot dx table f a b e z (edgeWord dx p) word
           ∙ filed i below p was (keeps i below p t l (other-point ne))
+
       by : Dec (edgeWord dx p ≡ edgeWord dx tip) → Dec (i ≡ f) → getD (set (withSlot dx table f a b e z) (edgeWord dx tip) f) (edgeWord dx p) 0 ≡ i
       by (yes w) k =
           ap (λ (n : ℕ). getD (set (withSlot dx table f a b e z) (edgeWord dx tip) f) n 0) w
@@ -119,16 +123,16 @@ module _ (dx : ℕ) (live live′ : Point → Type 0) (table : List ℕ) (ls : L
           ∙ sym (alone i below p t l w)
       by (no ne) (yes k) =
           before ne (subst (λ (n : ℕ). Tip p (getD ls n [])) (sym k)
-            (old-tips p (other-point ne) (subst (Tip p) (getD-set-same ls f line′ [] inside) (subst (λ (n : ℕ). Tip p (getD (set ls f line′) n [])) k t))))
+          (old-tips p (other-point ne) (subst (Tip p) (getD-set-same ls f line′ [] inside) (subst (λ (n : ℕ). Tip p (getD (set ls f line′) n [])) k t))))
       by (no ne) (no k) = before ne (subst (Tip p) (getD-set-other ls f i line′ [] k) t)
 
 -- a new line in a new slot, filed under its two words
 module _ (dx : ℕ) (live live′ : Point → Type 0) (table : List ℕ) (ls : List Line) (line′ : Line) (one two : Point) (a b e z : ℕ)
-  (room : dx + 2 ≤ length table) (filed : Filed dx live table ls) (framed : Framed dx (ls ++ (line′ ∷ [])))
-  (new-tips : (p : Point) → Tip p line′ → (p ≡ one → ⊥) → p ≡ two)
-  (alone : (i : ℕ) → i < length ls → (p : Point) → Tip p (getD ls i []) → (edgeWord dx p ≡ edgeWord dx one → ⊥) × (edgeWord dx p ≡ edgeWord dx two → ⊥))
-  (keeps : (i : ℕ) → i < length ls → (p : Point) → Tip p (getD ls i []) → live′ p → live p)
-  (words : (edgeWord dx one < dx + 2) × (edgeWord dx two < dx + 2)) where
+    (room : dx + 2 ≤ length table) (filed : Filed dx live table ls) (framed : Framed dx (ls ++ (line′ ∷ [])))
+    (new-tips : (p : Point) → Tip p line′ → (p ≡ one → ⊥) → p ≡ two)
+    (alone : (i : ℕ) → i < length ls → (p : Point) → Tip p (getD ls i []) → (edgeWord dx p ≡ edgeWord dx one → ⊥) × (edgeWord dx p ≡ edgeWord dx two → ⊥))
+    (keeps : (i : ℕ) → i < length ls → (p : Point) → Tip p (getD ls i []) → live′ p → live p)
+    (words : (edgeWord dx one < dx + 2) × (edgeWord dx two < dx + 2)) where
   abbrev filed-table : List ℕ
   filed-table = set (set (withSlot dx table (length ls) a b e z) (edgeWord dx one) (length ls)) (edgeWord dx two) (length ls)
 
@@ -164,17 +168,18 @@ module _ (dx : ℕ) (live live′ : Point → Type 0) (table : List ℕ) (ls : L
         where
           below : i < length ls
           below = omega (arith, length-append ls (line′ ∷ []))
+
           was : Tip p (getD ls i [])
           was = subst (Tip p) (List·getD-append ls (line′ ∷ []) [] i below) t
 
 -- a line goes, and the last one's tips are filed under its new slot
 module _ (dx : ℕ) (table links : List ℕ) (ls : List Line) (m g : ℕ) (long : length ls ≡ suc m) (hg : g < suc m) (room : dx + 2 ≤ length table)
-  (filed : (i : ℕ) → i < suc m → (i ≡ g → ⊥) → (p : Point) → Tip p (getD ls i []) → getD table (edgeWord dx p) 0 ≡ i)
-  (framed : (i : ℕ) → i < suc m → (p : Point) → Tip p (getD ls i []) → edgeWord dx p < dx + 2)
-  (alone : (i j : ℕ) → i < suc m → j < suc m → (i ≡ g → ⊥) → (j ≡ g → ⊥) → (p q : Point) → Tip p (getD ls i []) → Tip q (getD ls j []) → edgeWord dx p ≡ edgeWord dx q → i ≡ j)
-  (last-tips : (m ≡ g → ⊥) → (p : Point) → Tip p (getD ls m []) → (edgeWord dx p ≡ columnWord dx (linkPoint links (firstLink dx table m)) → ⊥) → edgeWord dx p ≡ columnWord dx (endPoint dx table m))
-  (first-tip : (m ≡ g → ⊥) → (p : Point) × Tip p (getD ls m []) × (edgeWord dx p ≡ columnWord dx (linkPoint links (firstLink dx table m))))
-  (end-tip′ : (m ≡ g → ⊥) → (p : Point) × Tip p (getD ls m []) × (edgeWord dx p ≡ columnWord dx (endPoint dx table m))) where
+    (filed : (i : ℕ) → i < suc m → (i ≡ g → ⊥) → (p : Point) → Tip p (getD ls i []) → getD table (edgeWord dx p) 0 ≡ i)
+    (framed : (i : ℕ) → i < suc m → (p : Point) → Tip p (getD ls i []) → edgeWord dx p < dx + 2)
+    (alone : (i j : ℕ) → i < suc m → j < suc m → (i ≡ g → ⊥) → (j ≡ g → ⊥) → (p q : Point) → Tip p (getD ls i []) → Tip q (getD ls j []) → edgeWord dx p ≡ edgeWord dx q → i ≡ j)
+    (last-tips : (m ≡ g → ⊥) → (p : Point) → Tip p (getD ls m []) → (edgeWord dx p ≡ columnWord dx (linkPoint links (firstLink dx table m)) → ⊥) → edgeWord dx p ≡ columnWord dx (endPoint dx table m))
+    (first-tip : (m ≡ g → ⊥) → (p : Point) × Tip p (getD ls m []) × (edgeWord dx p ≡ columnWord dx (linkPoint links (firstLink dx table m))))
+    (end-tip′ : (m ≡ g → ⊥) → (p : Point) × Tip p (getD ls m []) × (edgeWord dx p ≡ columnWord dx (endPoint dx table m))) where
   stored : List ℕ
   stored = withSlot dx table g (firstLink dx table m) (lastLink dx table m) (endPoint dx table m) (linkCount dx table m)
 
@@ -230,6 +235,7 @@ module _ (dx : ℕ) (table links : List ℕ) (ls : List Line) (m g : ℕ) (long 
     where
       other : (j ≡ g → ⊥) → Tip p (getD ls j [])
       other k = subst (Tip p) (drop-other [] ls g m long (omega arith) j hj k) t
+
       by : Dec (g ≡ m) → Dec (j ≡ g) → getD (cond (eqb g m) table (moved dx table links m g)) (edgeWord dx p) 0 ≡ j
       by (yes e) k = rw (eq-eqb g m e) (filed j (omega arith) (λ q. omega arith) p (other (λ q. omega arith)))
       by (no ne) (yes k) =

@@ -59,31 +59,31 @@ module _ (dx : ℕ) (links links′ : List ℕ) where
 
   pub line-still : (slot : Slot) (chain : List ℕ) (line : Line) → ((k : ℕ) → 1 ≤ uses k chain → Still links links′ k) → HeldLine dx links slot chain line → HeldLine dx links′ slot chain line
   line-still slot chain line still held = record {
-      linked = linked-still (linkNext links) (linkNext links′) (slot .first) chain (slot .last) (held .linked) (λ k used. still k used .next);
-      spells = held .spells ∙ ap (λ (l : Line). l ++ (indexedPoint dx (slot .end) ∷ [])) (sym (spelled-still chain (λ k used. still k used .point)))
-      }
+    linked = linked-still (linkNext links) (linkNext links′) (slot .first) chain (slot .last) (held .linked) (λ k used. still k used .next);
+    spells = held .spells ∙ ap (λ (l : Line). l ++ (indexedPoint dx (slot .end) ∷ [])) (sym (spelled-still chain (λ k used. still k used .point)));
+  }
 
   pub ring-still : (first last : ℕ) (chain : List ℕ) (ring : Line) → ((k : ℕ) → 1 ≤ uses k chain → Still links links′ k) → HeldRing dx links first last chain ring → HeldRing dx links′ first last chain ring
   ring-still first last chain ring still held = record {
-      linked = linked-still (linkNext links) (linkNext links′) first chain last (held .linked) (λ k used. still k used .next);
-      spells =
-          held .spells
-          ∙ ap₂ (λ (l : Line) (n : ℕ). l ++ (indexedPoint dx n ∷ []))
-            (sym (spelled-still chain (λ k used. still k used .point)))
-            (sym (still first (uses-first (linkNext links) first chain last (held .linked)) .point))
-      }
+    linked = linked-still (linkNext links) (linkNext links′) first chain last (held .linked) (λ k used. still k used .next);
+    spells =
+        held .spells
+        ∙ ap₂ (λ (l : Line) (n : ℕ). l ++ (indexedPoint dx n ∷ []))
+        (sym (spelled-still chain (λ k used. still k used .point)))
+        (sym (still first (uses-first (linkNext links) first chain last (held .linked)) .point));
+  }
 
   -- the ring whose last link is stored to
   ring-but-last : (first last : ℕ) (chain : List ℕ) (ring : Line) → uses last chain ≤ 1 → ((k : ℕ) → 1 ≤ uses k chain → linkPoint links′ k ≡ linkPoint links k)
-    → ((k : ℕ) → 1 ≤ uses k chain → (k ≡ last → ⊥) → linkNext links′ k ≡ linkNext links k) → HeldRing dx links first last chain ring → HeldRing dx links′ first last chain ring
+      → ((k : ℕ) → 1 ≤ uses k chain → (k ≡ last → ⊥) → linkNext links′ k ≡ linkNext links k) → HeldRing dx links first last chain ring → HeldRing dx links′ first last chain ring
   ring-but-last first last chain ring single points nexts held = record {
-      linked = linked-but-last (linkNext links) (linkNext links′) first chain last (held .linked) single (λ k ne used. nexts k used ne);
-      spells =
-          held .spells
-          ∙ ap₂ (λ (l : Line) (n : ℕ). l ++ (indexedPoint dx n ∷ []))
-            (sym (spelled-still chain points))
-            (sym (points first (uses-first (linkNext links) first chain last (held .linked))))
-      }
+    linked = linked-but-last (linkNext links) (linkNext links′) first chain last (held .linked) single (λ k ne used. nexts k used ne);
+    spells =
+        held .spells
+        ∙ ap₂ (λ (l : Line) (n : ℕ). l ++ (indexedPoint dx n ∷ []))
+        (sym (spelled-still chain points))
+        (sym (points first (uses-first (linkNext links) first chain last (held .linked))));
+  }
 
   pub uses-tail : (head : ℕ) (q : List ℕ) (qs : List (List ℕ)) (rings : List Line) (tail : ℕ) → HeldRings dx links head (q ∷ qs) rings tail → 1 ≤ total (uses tail) (q ∷ qs)
   unfolding total
@@ -95,43 +95,52 @@ module _ (dx : ℕ) (links links′ : List ℕ) where
   uses-tail head q (q′ ∷ qs) (ring ∷ ring′ ∷ rings) tail h = omega (arith, uses-tail (h .1) q′ qs (ring′ ∷ rings) tail (h .4))
 
   pub rings-still : (head : ℕ) (loops : List (List ℕ)) (rings : List Line) (tail : ℕ) → ((k : ℕ) → 1 ≤ total (uses k) loops → Still links links′ k)
-    → HeldRings dx links head loops rings tail → HeldRings dx links′ head loops rings tail
+      → HeldRings dx links head loops rings tail → HeldRings dx links′ head loops rings tail
   unfolding total
   rings-still head [] [] tail still h = tt
   rings-still head [] (ring ∷ rings) tail still h = h
   rings-still head (q ∷ []) [] tail still h = h
-  rings-still head (q ∷ []) (ring ∷ []) tail still h =
-      (ring-still head tail q ring (λ k used. still k (omega arith)) (h .0),
-      still tail (omega (arith, uses-last (linkNext links) head q tail (h .0 .linked))) .next ∙ h .1)
+  rings-still head (q ∷ []) (ring ∷ []) tail still h = (
+    ring-still head tail q ring (λ k used. still k (omega arith)) (h .0),
+    still tail (omega (arith, uses-last (linkNext links) head q tail (h .0 .linked))) .next ∙ h .1,
+  )
   rings-still head (q ∷ []) (ring ∷ ring′ ∷ rings) tail still h = h
   rings-still head (q ∷ q′ ∷ qs) [] tail still h = h
   rings-still head (q ∷ q′ ∷ qs) (ring ∷ []) tail still h = h
-  rings-still head (q ∷ q′ ∷ qs) (ring ∷ ring′ ∷ rings) tail still h =
-      (h .0, h .1, ring-still head (h .0) q ring (λ k used. still k (omega arith)) (h .2),
-      still (h .0) (omega (arith, uses-last (linkNext links) head q (h .0) (h .2 .linked))) .next ∙ h .3,
-      rings-still (h .1) (q′ ∷ qs) (ring′ ∷ rings) tail (λ k used. still k (omega arith)) (h .4))
+  rings-still head (q ∷ q′ ∷ qs) (ring ∷ ring′ ∷ rings) tail still h = (
+    h .0,
+    h .1,
+    ring-still head (h .0) q ring (λ k used. still k (omega arith)) (h .2),
+    still (h .0) (omega (arith, uses-last (linkNext links) head q (h .0) (h .2 .linked))) .next ∙ h .3,
+    rings-still (h .1) (q′ ∷ qs) (ring′ ∷ rings) tail (λ k used. still k (omega arith)) (h .4),
+  )
 
   -- one ring more, whose first link the last link of the rings before learns
   pub rings-more : (head : ℕ) (q : List ℕ) (qs : List (List ℕ)) (rings : List Line) (tail first last : ℕ) (chain : List ℕ) (ring : Line)
-    → total (uses tail) (q ∷ qs) ≤ 1
-    → ((k : ℕ) → 1 ≤ total (uses k) (q ∷ qs) → linkPoint links′ k ≡ linkPoint links k)
-    → ((k : ℕ) → 1 ≤ total (uses k) (q ∷ qs) → (k ≡ tail → ⊥) → linkNext links′ k ≡ linkNext links k)
-    → linkNext links′ tail ≡ mark + first → HeldRing dx links′ first last chain ring → linkNext links′ last ≡ mark
-    → HeldRings dx links head (q ∷ qs) rings tail → HeldRings dx links′ head (q ∷ qs ++ (chain ∷ [])) (rings ++ (ring ∷ [])) last
+      → total (uses tail) (q ∷ qs) ≤ 1
+      → ((k : ℕ) → 1 ≤ total (uses k) (q ∷ qs) → linkPoint links′ k ≡ linkPoint links k)
+      → ((k : ℕ) → 1 ≤ total (uses k) (q ∷ qs) → (k ≡ tail → ⊥) → linkNext links′ k ≡ linkNext links k)
+      → linkNext links′ tail ≡ mark + first → HeldRing dx links′ first last chain ring → linkNext links′ last ≡ mark
+      → HeldRings dx links head (q ∷ qs) rings tail → HeldRings dx links′ head (q ∷ qs ++ (chain ∷ [])) (rings ++ (ring ∷ [])) last
   unfolding total
   rings-more head q [] [] tail first last chain ring single points nexts told new end h = absurd h
-  rings-more head q [] (r ∷ []) tail first last chain ring single points nexts told new end h =
-      (tail, first,
-      ring-but-last head tail q r (omega arith) (λ k used. points k (omega arith)) (λ k used ne. nexts k (omega arith) ne) (h .0),
-      told, (new, end))
+  rings-more head q [] (r ∷ []) tail first last chain ring single points nexts told new end h = (
+    tail,
+    first,
+    ring-but-last head tail q r (omega arith) (λ k used. points k (omega arith)) (λ k used ne. nexts k (omega arith) ne) (h .0),
+    told,
+    (new, end),
+  )
   rings-more head q [] (r ∷ r′ ∷ rings) tail first last chain ring single points nexts told new end h = absurd h
   rings-more head q (q′ ∷ qs) [] tail first last chain ring single points nexts told new end h = absurd h
   rings-more head q (q′ ∷ qs) (r ∷ []) tail first last chain ring single points nexts told new end h = absurd h
-  rings-more head q (q′ ∷ qs) (r ∷ r′ ∷ rings) tail first last chain ring single points nexts told new end h =
-      (h .0, h .1,
-      ring-still head (h .0) q r (λ k used. record { point = points k (omega arith); next = nexts k (omega arith) (λ e. away k used e) }) (h .2),
-      nexts (h .0) (omega (arith, uses-last (linkNext links) head q (h .0) (h .2 .linked))) (λ e. away (h .0) (uses-last (linkNext links) head q (h .0) (h .2 .linked)) e) ∙ h .3,
-      rings-more (h .1) q′ qs (r′ ∷ rings) tail first last chain ring (omega arith) (λ k used. points k (omega arith)) (λ k used ne. nexts k (omega arith) ne) told new end (h .4))
+  rings-more head q (q′ ∷ qs) (r ∷ r′ ∷ rings) tail first last chain ring single points nexts told new end h = (
+    h .0,
+    h .1,
+    ring-still head (h .0) q r (λ k used. record { point = points k (omega arith); next = nexts k (omega arith) (λ e. away k used e) }) (h .2),
+    nexts (h .0) (omega (arith, uses-last (linkNext links) head q (h .0) (h .2 .linked))) (λ e. away (h .0) (uses-last (linkNext links) head q (h .0) (h .2 .linked)) e) ∙ h .3,
+    rings-more (h .1) q′ qs (r′ ∷ rings) tail first last chain ring (omega arith) (λ k used. points k (omega arith)) (λ k used ne. nexts k (omega arith) ne) told new end (h .4),
+  )
     where
       away : (k : ℕ) → 1 ≤ uses k q → k ≡ tail → ⊥
       away k used e = omega (arith, uses-tail (h .1) q′ qs (r′ ∷ rings) tail (h .4), ap (λ (n : ℕ). uses n q) e)

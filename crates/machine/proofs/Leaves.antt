@@ -65,7 +65,7 @@ module _ (dx h room : ℕ) (kept : Kept) (n : ℕ) (d : Drawing) (t : Tables) (n
 
   -- ---- close
   module _ (f : ℕ) (hf : f < length (d .lines)) (ends-here : endsAt (indexedPoint dx s) (getD (d .lines) f []) ≡ true) (starts-here : startsAt (indexedPoint dx e) (getD (d .lines) f []) ≡ true)
-    (numbers : n ≤ mark) (columns : Columns (rules.close d f (indexedPoint dx e) .lines)) where
+      (numbers : n ≤ mark) (columns : Columns (rules.close d f (indexedPoint dx e) .lines)) where
     held-f : HeldLine dx (t .links) (slotAt dx (t .lines) f) (getD (now .chains) f []) (getD (d .lines) f [])
     held-f = held-line dx h room kept n all all d t now small f hf
 
@@ -80,25 +80,28 @@ module _ (dx h room : ℕ) (kept : Kept) (n : ℕ) (d : Drawing) (t : Tables) (n
 
     pub close-carried : length (now .loops) + 1 < 2 ^ 32 → Carried dx h room kept (suc n) all (rules.close d f (indexedPoint dx e)) (closed dx t n s f)
     close-carried rings-fit = record {
-        chains = _;
-        loops = _;
-        held = close-held dx n h t d (now .chains) (now .loops) (now .held) (now .lines-long) (links-fit dx h room kept n all all d t now small) f hf s e at-end at-start fits rings-fit numbers;
-        filed = left (length (d .lines) - 1) (omega arith);
-        lines-long = unfold closed in rw (length-released dx (t .lines) (closedLinks dx t n s f) (t .progress .count - 1) f) (now .lines-long);
-        links-long = unfold closed in subst (λ (k : ℕ). 2 * room ≤ k) (sym long-links) (now .links-long);
-        lines-past = unfold closed in past-released dx h (t .lines) (closedLinks dx t n s f) (t .progress .count - 1) f (omega arith) ∙ now .lines-past;
-        links-past = unfold closed in past-links (now .loops) refl ∙ now .links-past
-        }
+      chains = _;
+      loops = _;
+      held = close-held dx n h t d (now .chains) (now .loops) (now .held) (now .lines-long) (links-fit dx h room kept n all all d t now small) f hf s e at-end at-start fits rings-fit numbers;
+      filed = left (length (d .lines) - 1) (omega arith);
+      lines-long = unfold closed in rw (length-released dx (t .lines) (closedLinks dx t n s f) (t .progress .count - 1) f) (now .lines-long);
+      links-long = unfold closed in subst (λ (k : ℕ). 2 * room ≤ k) (sym long-links) (now .links-long);
+      lines-past = unfold closed in past-released dx h (t .lines) (closedLinks dx t n s f) (t .progress .count - 1) f (omega arith) ∙ now .lines-past;
+      links-past = unfold closed in past-links (now .loops) refl ∙ now .links-past;
+    }
       where
         base : List ℕ
         base = withNext (withLink (t .links) n s mark) (lastLink dx (t .lines) f) n
+
         links-by : Bool → List ℕ
         links-by b = cond b base (withNext base (t .progress .tail) (wordOf (mark + firstLink dx (t .lines) f)))
+
         past-base : drop (2 * room) base ≡ drop (2 * room) (t .links)
         past-base =
             past-withNext room (withLink (t .links) n s mark) (lastLink dx (t .lines) f) n
-              (omega (arith, last-below dx n h t d (now .chains) (now .loops) (now .held) (now .lines-long) (links-fit dx h room kept n all all d t now small) f hf))
+            (omega (arith, last-below dx n h t d (now .chains) (now .loops) (now .held) (now .lines-long) (links-fit dx h room kept n all all d t now small) f hf))
             ∙ past-withLink room (t .links) n s mark small
+
         past-links : (l : List (List ℕ)) → now .loops ≡ l → drop (2 * room) (closedLinks dx t n s f) ≡ drop (2 * room) (t .links)
         past-links [] none =
             unfold closedLinks in
@@ -107,35 +110,41 @@ module _ (dx h room : ℕ) (kept : Kept) (n : ℕ) (d : Drawing) (t : Tables) (n
             unfold closedLinks in
             subst (λ (b : Bool). drop (2 * room) (links-by b) ≡ drop (2 * room) (t .links)) (sym (ne-eqb (t .progress .rings) 0 (λ z. omega (arith, now .held .rings-are, ap length some))))
             (past-withNext room base (t .progress .tail) (wordOf (mark + firstLink dx (t .lines) f))
-              (omega (arith, tail-below dx n h t d (now .chains) (now .loops) (now .held) (now .lines-long) (links-fit dx h room kept n all all d t now small) f hf s e at-end at-start q qs some numbers))
+            (omega (arith, tail-below dx n h t d (now .chains) (now .loops) (now .held) (now .lines-long) (links-fit dx h room kept n all all d t now small) f hf s e at-end at-start q qs some numbers))
             ∙ past-base)
+
         long-links : length (closedLinks dx t n s f) ≡ length (t .links)
         long-links = unfold closedLinks in by (eqb (t .progress .rings) 0)
           where
             by : (b : Bool) → length (links-by b) ≡ length (t .links)
             by true = simp (length-withNext, length-withLink)
             by false = simp (length-withNext, length-withLink)
+
         left : (m : ℕ) → length (d .lines) ≡ suc m → Filed dx all (closed dx t n s f .lines) (rules.close d f (indexedPoint dx e) .lines)
         left m long j hj p tip live =
             unfold closed in
             subst (λ (k : ℕ). getD (released dx (t .lines) (closedLinks dx t n s f) k f) (edgeWord dx p) 0 ≡ j) (sym one-fewer)
             (filed-left dx (t .lines) (closedLinks dx t n s f) (d .lines) m f long (omega arith) (frontier-fits dx h room kept n all all d t now small)
-              (λ i hi ne q was. now .filed i (omega arith) q was tt)
-              (λ i hi q was. lines-framed i (omega arith) q was)
-              (λ i k hi hk ni nk q r was was′ w. apart i k (omega arith) (omega arith) q r was was′ w)
-              (λ ne q was away. which-column dx (t .lines) (closedLinks dx t n s f) (getD (now .chains) m []) m (getD (d .lines) m []) (others m (omega arith) ne) (even ne) q was away)
-              (λ ne. first-column dx (t .lines) (closedLinks dx t n s f) (getD (now .chains) m []) m (getD (d .lines) m []) (others m (omega arith) ne) (even ne))
-              (λ ne. end-column dx (t .lines) (closedLinks dx t n s f) (getD (now .chains) m []) m (getD (d .lines) m []) (others m (omega arith) ne) (even ne))
-              j below p after)
+            (λ i hi ne q was. now .filed i (omega arith) q was tt)
+            (λ i hi q was. lines-framed i (omega arith) q was)
+            (λ i k hi hk ni nk q r was was′ w. apart i k (omega arith) (omega arith) q r was was′ w)
+            (λ ne q was away. which-column dx (t .lines) (closedLinks dx t n s f) (getD (now .chains) m []) m (getD (d .lines) m []) (others m (omega arith) ne) (even ne) q was away)
+            (λ ne. first-column dx (t .lines) (closedLinks dx t n s f) (getD (now .chains) m []) m (getD (d .lines) m []) (others m (omega arith) ne) (even ne))
+            (λ ne. end-column dx (t .lines) (closedLinks dx t n s f) (getD (now .chains) m []) m (getD (d .lines) m []) (others m (omega arith) ne) (even ne))
+            j below p after)
           where
             one-fewer : t .progress .count - 1 ≡ m
             one-fewer = omega (arith, now .held .count-is)
+
             short : length (rules.close d f (indexedPoint dx e) .lines) ≡ m
             short = unfold rules.close without dropAt in length-drop-at [] (d .lines) f m long hf
+
             below : j < m
             below = omega (arith, short)
+
             after : Tip p (getD (dropAt [] (d .lines) f) j [])
             after = unfold rules.close without dropAt in tip
+
             even : (m ≡ f → ⊥) → (q : Point) → Tip q (getD (d .lines) m []) → q .x % 2 ≡ 1 → ⊥
             even ne q was =
                 columns f (omega (arith, short)) q
@@ -143,8 +152,8 @@ module _ (dx h room : ℕ) (kept : Kept) (n : ℕ) (d : Drawing) (t : Tables) (n
 
   -- ---- join
   module _ (f g : ℕ) (hf : f < length (d .lines)) (hg : g < length (d .lines)) (ne : f ≡ g → ⊥)
-    (ends-here : endsAt (indexedPoint dx s) (getD (d .lines) f []) ≡ true) (starts-here : startsAt (indexedPoint dx e) (getD (d .lines) g []) ≡ true)
-    (columns : Columns (rules.join d f g .lines)) where
+      (ends-here : endsAt (indexedPoint dx s) (getD (d .lines) f []) ≡ true) (starts-here : startsAt (indexedPoint dx e) (getD (d .lines) g []) ≡ true)
+      (columns : Columns (rules.join d f g .lines)) where
     abbrev both : List Line
     both = set (d .lines) f (getD (d .lines) f [] ++ getD (d .lines) g [])
 
@@ -168,8 +177,10 @@ module _ (dx h room : ℕ) (kept : Kept) (n : ℕ) (d : Drawing) (t : Tables) (n
         at-f : (role : Role) → tipBy role p (getD (d .lines) f [] ++ getD (d .lines) g []) ≡ true → i ≡ f → Was i p
         at-f begin k q = here hi (subst (λ (j : ℕ). Tip p (getD (d .lines) j [])) (sym q) (record { role = begin; there = sym (start-of-joined p (indexedPoint dx s) (getD (d .lines) f []) (getD (d .lines) g []) ends-here) ∙ k }))
         at-f finish k q = in-g q (sym (end-of-joined p (indexedPoint dx e) (getD (d .lines) f []) (getD (d .lines) g []) starts-here) ∙ k)
+
         there : i ≡ f → Tip p (getD (d .lines) f [] ++ getD (d .lines) g [])
         there q = subst (Tip p) (ap (λ (j : ℕ). getD both j []) q ∙ getD-set-same (d .lines) f (getD (d .lines) f [] ++ getD (d .lines) g []) [] hf) tip
+
         by : Dec (i ≡ f) → Was i p
         by (yes q) = at-f (there q .role) (there q .there) q
         by (no q) = here hi (subst (Tip p) (getD-set-other (d .lines) f i (getD (d .lines) f [] ++ getD (d .lines) g []) [] q) tip)
@@ -240,16 +251,24 @@ module _ (dx h room : ℕ) (kept : Kept) (n : ℕ) (d : Drawing) (t : Tables) (n
         where
           stored : List ℕ
           stored = withSlot dx (t .lines) f (firstLink dx (t .lines) f) (lastLink dx (t .lines) g) (endPoint dx (t .lines) g) (wordOf (linkCount dx (t .lines) f + linkCount dx (t .lines) g + 1))
+
           w : ℕ
           w = columnWord dx (endPoint dx (t .lines) g)
+
           before : (edgeWord dx p ≡ w → ⊥) → Was i p → getD (t .lines) (edgeWord dx p) 0 ≡ i
           before no-w (here k a) = now .filed i (omega arith) p a tt
           before no-w (in-g k a) = absurd (no-w (ap (edgeWord dx) (end-is-Z p a) ∙ Z-column))
+
           by : Dec (edgeWord dx p ≡ w) → getD (set stored w f) (edgeWord dx p) 0 ≡ i
           by (yes q) =
               ap (λ (j : ℕ). getD (set stored w f) j 0) q
-              ∙ getD-set-same stored w f 0 (omega (arith, length-withSlot dx (t .lines) f (firstLink dx (t .lines) f) (lastLink dx (t .lines) g) (endPoint dx (t .lines) g) (wordOf (linkCount dx (t .lines) f + linkCount dx (t .lines) g + 1)),
-                frontier-fits dx h room kept n all all d t now small, framed-both i (omega arith) p tip, q))
+              ∙ getD-set-same stored w f 0 (omega (
+                arith,
+                length-withSlot dx (t .lines) f (firstLink dx (t .lines) f) (lastLink dx (t .lines) g) (endPoint dx (t .lines) g) (wordOf (linkCount dx (t .lines) f + linkCount dx (t .lines) g + 1)),
+                frontier-fits dx h room kept n all all d t now small,
+                framed-both i (omega arith) p tip,
+                q,
+              ))
               ∙ sym (apart-both i f (omega arith) hf away ne p Z tip Z-is-tip (q ∙ sym Z-column))
           by (no q) =
               getD-set-other stored w (edgeWord dx p) f 0 q
@@ -269,35 +288,35 @@ module _ (dx h room : ℕ) (kept : Kept) (n : ℕ) (d : Drawing) (t : Tables) (n
           unfold joined in
           subst (λ (k : ℕ). getD (released dx table links k g) (edgeWord dx p) 0 ≡ j) (sym one-fewer)
           (filed-left dx table links both m g both-long (omega arith) (omega (arith, long-table, frontier-fits dx h room kept n all all d t now small))
-            filed-both
-            (λ i hi q b. framed-both i (omega arith) q b)
-            (λ i k hi hk ni nk q r a b w. apart-both i k (omega arith) (omega arith) ni nk q r a b w)
-            (λ away q b no-first. which-column dx table links (chain-of m) m (getD both m []) (last-held away) (even-both m (omega arith) away) q b no-first)
-            (λ away. first-column dx table links (chain-of m) m (getD both m []) (last-held away) (even-both m (omega arith) away))
-            (λ away. end-column dx table links (chain-of m) m (getD both m []) (last-held away) (even-both m (omega arith) away))
-            j (omega (arith, short)) p (unfold rules.join without dropAt in tip))
+          filed-both
+          (λ i hi q b. framed-both i (omega arith) q b)
+          (λ i k hi hk ni nk q r a b w. apart-both i k (omega arith) (omega arith) ni nk q r a b w)
+          (λ away q b no-first. which-column dx table links (chain-of m) m (getD both m []) (last-held away) (even-both m (omega arith) away) q b no-first)
+          (λ away. first-column dx table links (chain-of m) m (getD both m []) (last-held away) (even-both m (omega arith) away))
+          (λ away. end-column dx table links (chain-of m) m (getD both m []) (last-held away) (even-both m (omega arith) away))
+          j (omega (arith, short)) p (unfold rules.join without dropAt in tip))
         where
           one-fewer : t .progress .count - 1 ≡ m
           one-fewer = omega (arith, now .held .count-is)
 
     pub join-carried : Carried dx h room kept (suc n) all (rules.join d f g) (joined dx t n s f g)
     join-carried = record {
-        chains = _;
-        loops = now .loops;
-        held = join-held dx n h t d (now .chains) (now .loops) (now .held) (now .lines-long) (links-fit dx h room kept n all all d t now small) f g hf hg ne s fits ends-at;
-        filed = left-filed (length (d .lines) - 1) (omega arith);
-        lines-long = unfold joined in rw (length-released dx table links (t .progress .count - 1) g, long-table) (now .lines-long);
-        links-long = unfold joined joinedLinks in simp (length-withNext, length-withLink) (now .links-long);
-        lines-past =
-            unfold joined joinedLines in
-            past-released dx h table links (t .progress .count - 1) g (omega arith)
-            ∙ past-filed dx h (withSlot dx (t .lines) f (firstLink dx (t .lines) f) (lastLink dx (t .lines) g) (endPoint dx (t .lines) g) (wordOf (linkCount dx (t .lines) f + linkCount dx (t .lines) g + 1))) (columnWord dx (endPoint dx (t .lines) g)) f (omega (arith, column-in-frontier dx (endPoint dx (t .lines) g)))
-            ∙ past-withSlot dx h (t .lines) f (firstLink dx (t .lines) f) (lastLink dx (t .lines) g) (endPoint dx (t .lines) g) (wordOf (linkCount dx (t .lines) f + linkCount dx (t .lines) g + 1)) (omega arith)
-            ∙ now .lines-past;
-        links-past =
-            unfold joined joinedLinks in
-            past-withNext room (withLink (t .links) n s (firstLink dx (t .lines) g)) (lastLink dx (t .lines) f) n
-              (omega (arith, last-below dx n h t d (now .chains) (now .loops) (now .held) (now .lines-long) (links-fit dx h room kept n all all d t now small) f hf))
-            ∙ past-withLink room (t .links) n s (firstLink dx (t .lines) g) small
-            ∙ now .links-past
-        }
+      chains = _;
+      loops = now .loops;
+      held = join-held dx n h t d (now .chains) (now .loops) (now .held) (now .lines-long) (links-fit dx h room kept n all all d t now small) f g hf hg ne s fits ends-at;
+      filed = left-filed (length (d .lines) - 1) (omega arith);
+      lines-long = unfold joined in rw (length-released dx table links (t .progress .count - 1) g, long-table) (now .lines-long);
+      links-long = unfold joined joinedLinks in simp (length-withNext, length-withLink) (now .links-long);
+      lines-past =
+          unfold joined joinedLines in
+          past-released dx h table links (t .progress .count - 1) g (omega arith)
+          ∙ past-filed dx h (withSlot dx (t .lines) f (firstLink dx (t .lines) f) (lastLink dx (t .lines) g) (endPoint dx (t .lines) g) (wordOf (linkCount dx (t .lines) f + linkCount dx (t .lines) g + 1))) (columnWord dx (endPoint dx (t .lines) g)) f (omega (arith, column-in-frontier dx (endPoint dx (t .lines) g)))
+          ∙ past-withSlot dx h (t .lines) f (firstLink dx (t .lines) f) (lastLink dx (t .lines) g) (endPoint dx (t .lines) g) (wordOf (linkCount dx (t .lines) f + linkCount dx (t .lines) g + 1)) (omega arith)
+          ∙ now .lines-past;
+      links-past =
+          unfold joined joinedLinks in
+          past-withNext room (withLink (t .links) n s (firstLink dx (t .lines) g)) (lastLink dx (t .lines) f) n
+          (omega (arith, last-below dx n h t d (now .chains) (now .loops) (now .held) (now .lines-long) (links-fit dx h room kept n all all d t now small) f hf))
+          ∙ past-withLink room (t .links) n s (firstLink dx (t .lines) g) small
+          ∙ now .links-past;
+    }

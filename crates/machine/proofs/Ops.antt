@@ -28,7 +28,7 @@ uses-one : (x k : ℕ) → uses x (k ∷ []) ≡ when 1 (eqb x k)
 uses-one x k = omega (arith, uses-cons x k [], uses-nil x)
 
 module _ (dx next h : ℕ) (t : Tables) (d : Drawing) (chains loops : List (List ℕ)) (held : Held dx next t d chains loops)
-  (room : dx + 2 + 4 * h ≤ length (t .lines)) (links-room : 2 * next + 1 < length (t .links)) where
+    (room : dx + 2 + 4 * h ≤ length (t .lines)) (links-room : 2 * next + 1 < length (t .links)) where
   abbrev count : ℕ
   count = length (d .lines)
 
@@ -113,35 +113,36 @@ module _ (dx next h : ℕ) (t : Tables) (d : Drawing) (chains loops : List (List
     -- ---- a line grows by one link
 
     stays : (links′ : List ℕ) → ((k : ℕ) → (k ≡ next → ⊥) → (k ≡ last → ⊥) → Still (t .links) links′ k)
-      → (i : ℕ) → i < count → (i ≡ f → ⊥) → HeldLine dx links′ (slot-at i) (chain-at i) (line-at i)
+        → (i : ℕ) → i < count → (i ≡ f → ⊥) → HeldLine dx links′ (slot-at i) (chain-at i) (line-at i)
     stays links′ still i hi ne =
         line-still dx (t .links) links′ (slot-at i) (chain-at i) (line-at i)
         (λ k u. still k (not-new k (chain-used i k hi u)) (other-chain i k hi ne u))
         (held .lines-held i hi)
 
     rings-stay : (links′ : List ℕ) → ((k : ℕ) → (k ≡ next → ⊥) → (k ≡ last → ⊥) → Still (t .links) links′ k)
-      → HeldRings dx links′ (t .progress .head) loops (d .rings) (t .progress .tail)
+        → HeldRings dx links′ (t .progress .head) loops (d .rings) (t .progress .tail)
     rings-stay links′ still =
         rings-still dx (t .links) links′ (t .progress .head) loops (d .rings) (t .progress .tail)
         (λ k u. still k (not-new k (unfold used in omega arith)) (in-rings k u)) (held .rings-held)
 
     replaced : (lines′ links′ chain′ : List ℕ) (line′ : Line) → HeldLine dx links′ (slotAt dx lines′ f) chain′ line′
-      → ((j : ℕ) → (j ≡ f → ⊥) → slotAt dx lines′ j ≡ slot-at j)
-      → ((k : ℕ) → (k ≡ next → ⊥) → (k ≡ last → ⊥) → Still (t .links) links′ k)
-      → ((k : ℕ) → uses k chain′ ≡ uses k (chain-at f) + when 1 (eqb k next))
-      → Held dx (suc next) (record { lines = lines′; links = links′; progress = t .progress }) (record { lines = set (d .lines) f line′; rings = d .rings }) (set chains f chain′) loops
+        → ((j : ℕ) → (j ≡ f → ⊥) → slotAt dx lines′ j ≡ slot-at j)
+        → ((k : ℕ) → (k ≡ next → ⊥) → (k ≡ last → ⊥) → Still (t .links) links′ k)
+        → ((k : ℕ) → uses k chain′ ≡ uses k (chain-at f) + when 1 (eqb k next))
+        → Held dx (suc next) (record { lines = lines′; links = links′; progress = t .progress }) (record { lines = set (d .lines) f line′; rings = d .rings }) (set chains f chain′) loops
     replaced lines′ links′ chain′ line′ new slots still more = record {
-        count-is = held .count-is ∙ sym (length-set (d .lines) f line′);
-        chains-are = length-set chains f chain′ ∙ held .chains-are ∙ sym (length-set (d .lines) f line′);
-        lines-held = λ i hi. by i (subst (λ (n : ℕ). i < n) (length-set (d .lines) f line′) hi) (ℕ-discrete i f);
-        once = grown-once (set chains f chain′) loops grown;
-        unused = grown-unused (set chains f chain′) loops grown;
-        rings-are = held .rings-are;
-        rings-held = rings-stay links′ still
-        }
+      count-is = held .count-is ∙ sym (length-set (d .lines) f line′);
+      chains-are = length-set chains f chain′ ∙ held .chains-are ∙ sym (length-set (d .lines) f line′);
+      lines-held = λ i hi. by i (subst (λ (n : ℕ). i < n) (length-set (d .lines) f line′) hi) (ℕ-discrete i f);
+      once = grown-once (set chains f chain′) loops grown;
+      unused = grown-unused (set chains f chain′) loops grown;
+      rings-are = held .rings-are;
+      rings-held = rings-stay links′ still;
+    }
       where
         grown : (k : ℕ) → total (uses k) (set chains f chain′) + total (uses k) loops ≡ used k + when 1 (eqb k next)
         grown k = unfold used in omega (arith, total-set (uses k) chains f chain′ [] in-chains, more k)
+
         by : (i : ℕ) → i < length (d .lines) → Dec (i ≡ f) → HeldLine dx links′ (slotAt dx lines′ i) (getD (set chains f chain′) i []) (getD (set (d .lines) f line′) i [])
         by i hi (yes e) = rw (e, getD-set-same chains f chain′ [] in-chains, getD-set-same (d .lines) f line′ [] (hf)) new
         by i hi (no ne) =
@@ -173,9 +174,9 @@ module _ (dx next h : ℕ) (t : Tables) (d : Drawing) (chains loops : List (List
       behind-still : (k : ℕ) → (k ≡ next → ⊥) → (k ≡ last → ⊥) → Still (t .links) behind k
       unfolding behind
       behind-still k ne ne′ = record {
-          point = old-point (t .links) next s v last links-room last-fits last-apart k ne;
-          next = old-next (t .links) next s v last links-room last-fits last-apart k ne ne′
-          }
+        point = old-point (t .links) next s v last links-room last-fits last-apart k ne;
+        next = old-next (t .links) next s v last links-room last-fits last-apart k ne ne′;
+      }
 
       behind-linked : (rest : List ℕ) (z : ℕ) → Linked (linkNext behind) next (next ∷ rest) z → Linked (linkNext behind) first (chain-at f ++ (next ∷ rest)) z
       unfolding behind
@@ -203,7 +204,7 @@ module _ (dx next h : ℕ) (t : Tables) (d : Drawing) (chains loops : List (List
     line-spells s at-end = held-f .spells ∙ ap (λ (p : Point). spelled dx (t .links) (chain-at f) ++ (p ∷ [])) (sym at-end)
 
     pub append-held : (s e we : ℕ) → we < dx + 2 → f < h → indexedPoint dx s ≡ indexedPoint dx end
-      → Held dx (suc next) (appended dx t next s f e we) (rules.append d f (indexedPoint dx e)) (set chains f (chain-at f ++ (next ∷ []))) loops
+        → Held dx (suc next) (appended dx t next s f e we) (rules.append d f (indexedPoint dx e)) (set chains f (chain-at f ++ (next ∷ []))) loops
     unfolding appended rules.append behind extended
     append-held s e we hw fits at-end =
         replaced (appended dx t next s f e we .lines) (behind s 0) (chain-at f ++ (next ∷ [])) (line-at f ++ (indexedPoint dx e ∷ []))
@@ -214,10 +215,10 @@ module _ (dx next h : ℕ) (t : Tables) (d : Drawing) (chains loops : List (List
       where
         new : HeldLine dx (behind s 0) (record { first = first; last = next; end = e }) (chain-at f ++ (next ∷ [])) (line-at f ++ (indexedPoint dx e ∷ []))
         new = record {
-            linked = behind-linked s 0 [] next (refl, refl);
-            spells =
-                ap (λ (l : Line). l ++ (indexedPoint dx e ∷ [])) (line-spells s at-end ∙ sym (behind-spelled-end s 0))
-            }
+          linked = behind-linked s 0 [] next (refl, refl);
+          spells =
+              ap (λ (l : Line). l ++ (indexedPoint dx e ∷ [])) (line-spells s at-end ∙ sym (behind-spelled-end s 0));
+        }
 
     -- ---- a link in front
 
@@ -226,7 +227,7 @@ module _ (dx next h : ℕ) (t : Tables) (d : Drawing) (chains loops : List (List
       in-front-still k ne = record { point = point-of-old (t .links) next s v k ne; next = next-of-old (t .links) next s v k ne }
 
     pub prepend-held : (s ws : ℕ) → ws < dx + 2 → f < h
-      → Held dx (suc next) (prepended dx t next s f ws) (rules.prepend d f (indexedPoint dx s)) (set chains f (next ∷ chain-at f)) loops
+        → Held dx (suc next) (prepended dx t next s f ws) (rules.prepend d f (indexedPoint dx s)) (set chains f (next ∷ chain-at f)) loops
     unfolding prepended rules.prepend
     prepend-held s ws hw fits =
         replaced (prepended dx t next s f ws .lines) (withLink (t .links) next s first) (next ∷ chain-at f) (indexedPoint dx s ∷ line-at f)
@@ -237,59 +238,76 @@ module _ (dx next h : ℕ) (t : Tables) (d : Drawing) (chains loops : List (List
       where
         links′ : List ℕ
         links′ = withLink (t .links) next s first
+
         still : (k : ℕ) → 1 ≤ uses k (chain-at f) → Still (t .links) links′ k
         still k u = in-front-still s first k (not-new k (chain-used f k hf u))
+
         new : HeldLine dx links′ (record { first = next; last = last; end = end }) (next ∷ chain-at f) (indexedPoint dx s ∷ line-at f)
         new = record {
-            linked =
-                linked-join (linkNext links′) next (next ∷ []) next first (chain-at f) last (refl, refl) (next-of-new (t .links) next s first links-room)
-                (linked-still (linkNext (t .links)) (linkNext links′) first (chain-at f) last linked-f (λ k u. still k u .next));
-            spells =
-                unfold spelled in
-                ap₂ (λ (n : ℕ) (l : Line). indexedPoint dx n ∷ l) (sym (point-of-new (t .links) next s first links-room)) (held-f .spells ∙ ap (λ (l : Line). l ++ (indexedPoint dx end ∷ [])) (sym (spelled-still dx (t .links) links′ (chain-at f) (λ k u. still k u .point))))
-            }
+          linked =
+              linked-join (linkNext links′) next (next ∷ []) next first (chain-at f) last (refl, refl) (next-of-new (t .links) next s first links-room)
+              (linked-still (linkNext (t .links)) (linkNext links′) first (chain-at f) last linked-f (λ k u. still k u .next));
+          spells =
+              unfold spelled in
+              ap₂ (λ (n : ℕ) (l : Line). indexedPoint dx n ∷ l) (sym (point-of-new (t .links) next s first links-room)) (held-f .spells ∙ ap (λ (l : Line). l ++ (indexedPoint dx end ∷ [])) (sym (spelled-still dx (t .links) links′ (chain-at f) (λ k u. still k u .point))));
+        }
 
   -- ---- a new line
 
   pub start-held : (s e ws we : ℕ) → ws < dx + 2 → we < dx + 2 → length (d .lines) < h → length (d .lines) + 1 < 2 ^ 32
-    → Held dx (suc next) (started dx t next s e ws we) (rules.start d (indexedPoint dx s) (indexedPoint dx e)) (chains ++ ((next ∷ []) ∷ [])) loops
+      → Held dx (suc next) (started dx t next s e ws we) (rules.start d (indexedPoint dx s) (indexedPoint dx e)) (chains ++ ((next ∷ []) ∷ [])) loops
   unfolding started rules.start wordOf
   start-held s e ws we hws hwe fits small = record {
-      count-is = rw (held .count-is) (mod-eq-of-lt small ∙ sym (length-append (d .lines) ((indexedPoint dx s ∷ indexedPoint dx e ∷ []) ∷ [])));
-      chains-are = length-append chains ((next ∷ []) ∷ []) ∙ ap (λ (n : ℕ). n + 1) (held .chains-are) ∙ sym (length-append (d .lines) ((indexedPoint dx s ∷ indexedPoint dx e ∷ []) ∷ []));
-      lines-held = λ i hi. by i (ℕ-discrete i count) hi;
-      once = grown-once (chains ++ ((next ∷ []) ∷ [])) loops grown;
-      unused = grown-unused (chains ++ ((next ∷ []) ∷ [])) loops grown;
-      rings-are = held .rings-are;
-      rings-held = rings-still dx (t .links) links′ (t .progress .head) loops (d .rings) (t .progress .tail) (λ k u. still k (not-new k (unfold used in omega arith))) (held .rings-held)
-      }
+    count-is = rw (held .count-is) (mod-eq-of-lt small ∙ sym (length-append (d .lines) ((indexedPoint dx s ∷ indexedPoint dx e ∷ []) ∷ [])));
+    chains-are = length-append chains ((next ∷ []) ∷ []) ∙ ap (λ (n : ℕ). n + 1) (held .chains-are) ∙ sym (length-append (d .lines) ((indexedPoint dx s ∷ indexedPoint dx e ∷ []) ∷ []));
+    lines-held = λ i hi. by i (ℕ-discrete i count) hi;
+    once = grown-once (chains ++ ((next ∷ []) ∷ [])) loops grown;
+    unused = grown-unused (chains ++ ((next ∷ []) ∷ [])) loops grown;
+    rings-are = held .rings-are;
+    rings-held = rings-still dx (t .links) links′ (t .progress .head) loops (d .rings) (t .progress .tail) (λ k u. still k (not-new k (unfold used in omega arith))) (held .rings-held);
+  }
     where
       links′ : List ℕ
       links′ = withLink (t .links) next s 0
+
       lines′ : List ℕ
       lines′ = set (set (withSlot dx (t .lines) (t .progress .count) next next e 1) ws (t .progress .count)) we (t .progress .count)
+
       still : (k : ℕ) → (k ≡ next → ⊥) → Still (t .links) links′ k
       still k ne = record { point = point-of-old (t .links) next s 0 k ne; next = next-of-old (t .links) next s 0 k ne }
+
       grown : (k : ℕ) → total (uses k) (chains ++ ((next ∷ []) ∷ [])) + total (uses k) loops ≡ used k + when 1 (eqb k next)
       grown k = unfold used total in omega (arith, total-append (uses k) chains ((next ∷ []) ∷ []), uses-one k next)
+
       slots : (j : ℕ) → slotAt dx lines′ j ≡ slotAt dx (withSlot dx (t .lines) (t .progress .count) next next e 1) j
       slots j =
           slot-of-filed dx (set (withSlot dx (t .lines) (t .progress .count) next next e 1) ws (t .progress .count)) we (t .progress .count) j hwe
           ∙ slot-of-filed dx (withSlot dx (t .lines) (t .progress .count) next next e 1) ws (t .progress .count) j hws
+
       new : HeldLine dx links′ (record { first = next; last = next; end = e }) (next ∷ []) (indexedPoint dx s ∷ indexedPoint dx e ∷ [])
       new = record {
-          linked = (refl, refl);
-          spells = unfold spelled in ap (λ (n : ℕ). indexedPoint dx n ∷ indexedPoint dx e ∷ []) (sym (point-of-new (t .links) next s 0 links-room))
-          }
+        linked = (refl, refl);
+        spells = unfold spelled in ap (λ (n : ℕ). indexedPoint dx n ∷ indexedPoint dx e ∷ []) (sym (point-of-new (t .links) next s 0 links-room));
+      }
+
       by : (i : ℕ) → Dec (i ≡ count) → i < length (d .lines ++ ((indexedPoint dx s ∷ indexedPoint dx e ∷ []) ∷ []))
-        → HeldLine dx links′ (slotAt dx lines′ i) (getD (chains ++ ((next ∷ []) ∷ [])) i []) (getD (d .lines ++ ((indexedPoint dx s ∷ indexedPoint dx e ∷ []) ∷ [])) i [])
+          → HeldLine dx links′ (slotAt dx lines′ i) (getD (chains ++ ((next ∷ []) ∷ [])) i []) (getD (d .lines ++ ((indexedPoint dx s ∷ indexedPoint dx e ∷ []) ∷ [])) i [])
       by i (yes q) hi =
-          rw (q, getD-append-seam (d .lines) (indexedPoint dx s ∷ indexedPoint dx e ∷ []) [] [], ap (λ (n : ℕ). getD (chains ++ ((next ∷ []) ∷ [])) n []) (sym (held .chains-are)) ∙ getD-append-seam chains (next ∷ []) [] [],
-            slots count, ap (slotAt dx (withSlot dx (t .lines) (t .progress .count) next next e 1)) (sym (held .count-is)) ∙ slot-of-same dx (t .lines) (t .progress .count) next next e 1 (omega (arith, held .count-is)))
+          rw (
+            q,
+            getD-append-seam (d .lines) (indexedPoint dx s ∷ indexedPoint dx e ∷ []) [] [],
+            ap (λ (n : ℕ). getD (chains ++ ((next ∷ []) ∷ [])) n []) (sym (held .chains-are)) ∙ getD-append-seam chains (next ∷ []) [] [],
+            slots count,
+            ap (slotAt dx (withSlot dx (t .lines) (t .progress .count) next next e 1)) (sym (held .count-is)) ∙ slot-of-same dx (t .lines) (t .progress .count) next next e 1 (omega (arith, held .count-is)),
+          )
           new
       by i (no ne) hi =
-          rw (List·getD-append (d .lines) ((indexedPoint dx s ∷ indexedPoint dx e ∷ []) ∷ []) [] i below, List·getD-append chains ((next ∷ []) ∷ []) [] i (subst (λ (n : ℕ). i < n) (sym (held .chains-are)) below),
-            slots i, slot-of-other dx (t .lines) (t .progress .count) next next e 1 i (λ q. ne (q ∙ held .count-is)))
+          rw (
+            List·getD-append (d .lines) ((indexedPoint dx s ∷ indexedPoint dx e ∷ []) ∷ []) [] i below,
+            List·getD-append chains ((next ∷ []) ∷ []) [] i (subst (λ (n : ℕ). i < n) (sym (held .chains-are)) below),
+            slots i,
+            slot-of-other dx (t .lines) (t .progress .count) next next e 1 i (λ q. ne (q ∙ held .count-is)),
+          )
           (line-still dx (t .links) links′ (slot-at i) (chain-at i) (line-at i) (λ k u. still k (not-new k (chain-used i k below u))) (held .lines-held i below))
         where
           below : i < count
@@ -314,16 +332,16 @@ module _ (dx next h : ℕ) (t : Tables) (d : Drawing) (chains loops : List (List
     both-held : (s : ℕ) → indexedPoint dx s ≡ indexedPoint dx (end f hf) → HeldLine dx (with-g s) (record { first = first f hf; last = last g hg; end = end g hg }) joined-chain joined-line
     unfolding joined-chain joined-line with-g
     both-held s at-end = record {
-        linked =
-            behind-linked f hf s (first g hg) (chain-at g) (last g hg)
-            (linked-join (linkNext (with-g s)) next (next ∷ []) next (first g hg) (chain-at g) (last g hg) (refl, refl)
-            (unfold behind in new-next (t .links) next s (first g hg) (last f hf) links-room (last-fits f hf s (first g hg)) (last-apart f hf s (first g hg)))
-            (linked-still (linkNext (t .links)) (linkNext (with-g s)) (first g hg) (chain-at g) (last g hg) (linked-f g hg) (λ k u. g-still s k u .next)));
-        spells =
-            ap₂ (λ (l m : Line). l ++ m) (line-spells f hf s at-end) (held-f g hg .spells ∙ ap (λ (l : Line). l ++ (indexedPoint dx (end g hg) ∷ [])) (sym (spelled-still dx (t .links) (with-g s) (chain-at g) (λ k u. g-still s k u .point))))
-            ∙ sym (append-assoc (spelled dx (t .links) (chain-at f) ++ (indexedPoint dx s ∷ [])) (spelled dx (with-g s) (chain-at g)) (indexedPoint dx (end g hg) ∷ []))
-            ∙ ap (λ (l : Line). l ++ (indexedPoint dx (end g hg) ∷ [])) (sym (behind-spelled f hf s (first g hg) (chain-at g)))
-        }
+      linked =
+          behind-linked f hf s (first g hg) (chain-at g) (last g hg)
+          (linked-join (linkNext (with-g s)) next (next ∷ []) next (first g hg) (chain-at g) (last g hg) (refl, refl)
+          (unfold behind in new-next (t .links) next s (first g hg) (last f hf) links-room (last-fits f hf s (first g hg)) (last-apart f hf s (first g hg)))
+          (linked-still (linkNext (t .links)) (linkNext (with-g s)) (first g hg) (chain-at g) (last g hg) (linked-f g hg) (λ k u. g-still s k u .next)));
+      spells =
+          ap₂ (λ (l m : Line). l ++ m) (line-spells f hf s at-end) (held-f g hg .spells ∙ ap (λ (l : Line). l ++ (indexedPoint dx (end g hg) ∷ [])) (sym (spelled-still dx (t .links) (with-g s) (chain-at g) (λ k u. g-still s k u .point))))
+          ∙ sym (append-assoc (spelled dx (t .links) (chain-at f) ++ (indexedPoint dx s ∷ [])) (spelled dx (with-g s) (chain-at g)) (indexedPoint dx (end g hg) ∷ []))
+          ∙ ap (λ (l : Line). l ++ (indexedPoint dx (end g hg) ∷ [])) (sym (behind-spelled f hf s (first g hg) (chain-at g)));
+    }
 
     chains-joined : List (List ℕ)
     chains-joined = set chains f joined-chain
@@ -366,30 +384,37 @@ module _ (dx next h : ℕ) (t : Tables) (d : Drawing) (chains loops : List (List
         where
           chains-long : (m : ℕ) → count ≡ suc m → length chains-joined ≡ suc m
           chains-long m e = length-set chains f joined-chain ∙ held .chains-are ∙ e
+
           lines-long : (m : ℕ) → count ≡ suc m → length lines-joined ≡ suc m
           lines-long m e = length-set (d .lines) f joined-line ∙ e
+
           length-left : (m : ℕ) → count ≡ suc m → length (dropAt [] lines-joined g) ≡ m
           length-left m e = length-drop-at [] lines-joined g m (lines-long m e) (rw (length-set (d .lines) f joined-line) hg)
+
           grown : (m : ℕ) → count ≡ suc m → (k : ℕ) → total (uses k) (dropAt [] chains-joined g) + total (uses k) loops ≡ used k + when 1 (eqb k next)
           grown m e k =
               unfold used chains-joined joined-chain in
-              omega (arith,
+              omega (
+                arith,
                 total-drop [] chains-joined g m (length-set chains f joined-chain ∙ held .chains-are ∙ e) (rw (length-set chains f joined-chain) (in-chains g hg)) (uses k),
                 ap (uses k) (getD-set-other chains f g joined-chain [] (λ q. ne (sym q))),
                 total-set (uses k) chains f joined-chain [] (in-chains f hf),
-                uses-append k (chain-at f) (next ∷ chain-at g), uses-cons k next (chain-at g))
+                uses-append k (chain-at f) (next ∷ chain-at g),
+                uses-cons k next (chain-at g),
+              )
+
           by : (m : ℕ) → count ≡ suc m → Held dx (suc next) (joined dx t next s f g) (rules.join d f g) (dropAt [] (set chains f (chain-at f ++ (next ∷ chain-at g))) g) loops
           by m e = record {
-              count-is = one-fewer m e ∙ sym (length-left m e);
-              chains-are = length-drop-at [] chains-joined g m (chains-long m e) (rw (length-set chains f joined-chain) (in-chains g hg)) ∙ sym (length-left m e);
-              lines-held = λ j hj.
+            count-is = one-fewer m e ∙ sym (length-left m e);
+            chains-are = length-drop-at [] chains-joined g m (chains-long m e) (rw (length-set chains f joined-chain) (in-chains g hg)) ∙ sym (length-left m e);
+            lines-held = λ j hj.
                 subst (λ (n : ℕ). HeldLine dx (with-g s) (slotAt dx (released dx table (with-g s) n g) j) (getD (dropAt [] chains-joined g) j []) (getD (dropAt [] lines-joined g) j [])) (sym (one-fewer m e))
                 (lines-left dx table (with-g s) chains-joined lines-joined m g (lines-long m e) (chains-long m e) (omega arith) (omega (arith, length-table)) (λ i hi away. before i (omega arith) away (ℕ-discrete i f)) j (omega (arith, length-left m e)));
-              once = grown-once (dropAt [] chains-joined g) loops (grown m e);
-              unused = grown-unused (dropAt [] chains-joined g) loops (grown m e);
-              rings-are = held .rings-are;
-              rings-held = rings-stay f hf (with-g s) (behind-still f hf s (first g hg))
-              }
+            once = grown-once (dropAt [] chains-joined g) loops (grown m e);
+            unused = grown-unused (dropAt [] chains-joined g) loops (grown m e);
+            rings-are = held .rings-are;
+            rings-held = rings-stay f hf (with-g s) (behind-still f hf s (first g hg));
+          }
 
   -- ---- a line closes: its chain becomes a ring's, and its slot goes
 
@@ -398,38 +423,47 @@ module _ (dx next h : ℕ) (t : Tables) (d : Drawing) (chains loops : List (List
     loop = chain-at f ++ (next ∷ [])
 
     closed-by : (links′ : List ℕ) (head′ : ℕ) (ring : Line) → ((i k : ℕ) → i < count → (i ≡ f → ⊥) → 1 ≤ uses k (chain-at i) → Still (t .links) links′ k)
-      → HeldRings dx links′ head′ (loops ++ (loop ∷ [])) (d .rings ++ (ring ∷ [])) next → count ≤ h → length loops + 1 < 2 ^ 32
-      → Held dx (suc next)
-        (record { lines = released dx (t .lines) links′ (t .progress .count - 1) f; links = links′;
-          progress = record { count = t .progress .count - 1; rings = wordOf (t .progress .rings + 1); head = head′; tail = next } })
+        → HeldRings dx links′ head′ (loops ++ (loop ∷ [])) (d .rings ++ (ring ∷ [])) next → count ≤ h → length loops + 1 < 2 ^ 32
+        → Held dx (suc next)
+        (record {
+          lines = released dx (t .lines) links′ (t .progress .count - 1) f;
+          links = links′;
+          progress = record { count = t .progress .count - 1; rings = wordOf (t .progress .rings + 1); head = head′; tail = next };
+        })
         (record { lines = without (d .lines) f; rings = d .rings ++ (ring ∷ []) }) (dropAt [] chains f) (loops ++ (loop ∷ []))
     unfolding without dropAt wordOf
     closed-by links′ head′ ring still rings fits small = by (count - 1) (omega arith)
       where
         length-left : (m : ℕ) → count ≡ suc m → length (dropAt [] (d .lines) f) ≡ m
         length-left m e = length-drop-at [] (d .lines) f m e hf
+
         one-fewer : (m : ℕ) → count ≡ suc m → t .progress .count - 1 ≡ m
         one-fewer m e = omega (arith, held .count-is)
+
         grown : (m : ℕ) → count ≡ suc m → (k : ℕ) → total (uses k) (dropAt [] chains f) + total (uses k) (loops ++ (loop ∷ [])) ≡ used k + when 1 (eqb k next)
         grown m e k =
             unfold used loop total in
             omega (arith, total-drop [] chains f m (held .chains-are ∙ e) (in-chains f hf) (uses k), total-append (uses k) loops (loop ∷ []), uses-append k (chain-at f) (next ∷ []), uses-one k next)
+
         by : (m : ℕ) → count ≡ suc m → Held dx (suc next)
-          (record { lines = released dx (t .lines) links′ (t .progress .count - 1) f; links = links′;
-            progress = record { count = t .progress .count - 1; rings = wordOf (t .progress .rings + 1); head = head′; tail = next } })
-          (record { lines = without (d .lines) f; rings = d .rings ++ (ring ∷ []) }) (dropAt [] chains f) (loops ++ (loop ∷ []))
+            (record {
+              lines = released dx (t .lines) links′ (t .progress .count - 1) f;
+              links = links′;
+              progress = record { count = t .progress .count - 1; rings = wordOf (t .progress .rings + 1); head = head′; tail = next };
+            })
+            (record { lines = without (d .lines) f; rings = d .rings ++ (ring ∷ []) }) (dropAt [] chains f) (loops ++ (loop ∷ []))
         by m e = record {
-            count-is = one-fewer m e ∙ sym (length-left m e);
-            chains-are = length-drop-at [] chains f m (held .chains-are ∙ e) (in-chains f hf) ∙ sym (length-left m e);
-            lines-held = λ j hj.
+          count-is = one-fewer m e ∙ sym (length-left m e);
+          chains-are = length-drop-at [] chains f m (held .chains-are ∙ e) (in-chains f hf) ∙ sym (length-left m e);
+          lines-held = λ j hj.
               subst (λ (n : ℕ). HeldLine dx links′ (slotAt dx (released dx (t .lines) links′ n f) j) (getD (dropAt [] chains f) j []) (getD (dropAt [] (d .lines) f) j [])) (sym (one-fewer m e))
               (lines-left dx (t .lines) links′ chains (d .lines) m f e (held .chains-are ∙ e) (omega arith) (omega arith)
-                (λ i hi away. line-still dx (t .links) links′ (slot-at i) (chain-at i) (line-at i) (λ k u. still i k (omega arith) away u) (held .lines-held i (omega arith))) j (omega (arith, length-left m e)));
-            once = grown-once (dropAt [] chains f) (loops ++ (loop ∷ [])) (grown m e);
-            unused = grown-unused (dropAt [] chains f) (loops ++ (loop ∷ [])) (grown m e);
-            rings-are = ap (λ (n : ℕ). (n + 1) % 2 ^ 32) (held .rings-are) ∙ mod-eq-of-lt small ∙ sym (length-append loops (loop ∷ []));
-            rings-held = rings
-            }
+              (λ i hi away. line-still dx (t .links) links′ (slot-at i) (chain-at i) (line-at i) (λ k u. still i k (omega arith) away u) (held .lines-held i (omega arith))) j (omega (arith, length-left m e)));
+          once = grown-once (dropAt [] chains f) (loops ++ (loop ∷ [])) (grown m e);
+          unused = grown-unused (dropAt [] chains f) (loops ++ (loop ∷ [])) (grown m e);
+          rings-are = ap (λ (n : ℕ). (n + 1) % 2 ^ 32) (held .rings-are) ∙ mod-eq-of-lt small ∙ sym (length-append loops (loop ∷ []));
+          rings-held = rings;
+        }
 
     module _ (s e : ℕ) (at-end : indexedPoint dx s ≡ indexedPoint dx (end f hf)) (at-start : indexedPoint dx (linkPoint (t .links) (first f hf)) ≡ indexedPoint dx e) where
       base : List ℕ
@@ -448,12 +482,12 @@ module _ (dx next h : ℕ) (t : Tables) (d : Drawing) (chains loops : List (List
       base-ring : HeldRing dx base (first f hf) next loop ring
       unfolding base loop ring
       base-ring = record {
-          linked = behind-linked f hf s mark [] next (refl, refl);
-          spells =
-              ap₂ (λ (l : Line) (p : Point). l ++ (p ∷ []))
-              (line-spells f hf s at-end ∙ sym (behind-spelled-end f hf s mark))
-              (sym at-start ∙ ap (indexedPoint dx) (sym (unfold behind in old-point (t .links) next s mark (last f hf) links-room (last-fits f hf s mark) (last-apart f hf s mark) (first f hf) first-not-new)))
-          }
+        linked = behind-linked f hf s mark [] next (refl, refl);
+        spells =
+            ap₂ (λ (l : Line) (p : Point). l ++ (p ∷ []))
+            (line-spells f hf s at-end ∙ sym (behind-spelled-end f hf s mark))
+            (sym at-start ∙ ap (indexedPoint dx) (sym (unfold behind in old-point (t .links) next s mark (last f hf) links-room (last-fits f hf s mark) (last-apart f hf s mark) (first f hf) first-not-new)));
+      }
 
       base-end : linkNext base next ≡ mark
       unfolding base behind
@@ -487,9 +521,9 @@ module _ (dx next h : ℕ) (t : Tables) (d : Drawing) (chains loops : List (List
         told-still : (k : ℕ) → (k ≡ next → ⊥) → (k ≡ last f hf → ⊥) → (k ≡ tail → ⊥) → Still (t .links) told k
         unfolding told
         told-still k n l z = record {
-            point = point-of-withNext base tail (wordOf (mark + first f hf)) k ∙ base-still k n l .point;
-            next = next-of-other base tail (wordOf (mark + first f hf)) k z ∙ base-still k n l .next
-            }
+          point = point-of-withNext base tail (wordOf (mark + first f hf)) k ∙ base-still k n l .point;
+          next = next-of-other base tail (wordOf (mark + first f hf)) k z ∙ base-still k n l .next;
+        }
 
         not-tail : (i k : ℕ) → i < count → 1 ≤ uses k (chain-at i) → k ≡ tail → ⊥
         not-tail i k hi u e =
@@ -508,26 +542,29 @@ module _ (dx next h : ℕ) (t : Tables) (d : Drawing) (chains loops : List (List
         told-rings =
             subst (λ (l : List (List ℕ)). HeldRings dx told (t .progress .head) (l ++ (loop ∷ [])) (d .rings ++ (ring ∷ [])) next) (sym some)
             (rings-more dx (t .links) told (t .progress .head) q qs (d .rings) tail (first f hf) next loop ring
-              (omega (arith, held .once tail, counted tail))
-              (λ k u. point-of-withNext base tail (wordOf (mark + first f hf)) k ∙ base-still k (not-new k (in-use k u)) (in-rings f hf k (there k u)) .point)
-              (λ k u ne. told-still k (not-new k (in-use k u)) (in-rings f hf k (there k u)) ne .next)
-              (next-of-same base tail (wordOf (mark + first f hf)) tail-fits ∙ whole)
-              (ring-still dx base told (first f hf) next loop ring
-                (λ k u. record { point = point-of-withNext base tail (wordOf (mark + first f hf)) k; next = next-of-other base tail (wordOf (mark + first f hf)) k (loop-not-tail k u) }) base-ring)
-              (next-of-other base tail (wordOf (mark + first f hf)) next (λ e. not-new tail (in-use tail (omega (arith, tail-used, counted tail))) (sym e)) ∙ base-end)
-              held-rings)
+            (omega (arith, held .once tail, counted tail))
+            (λ k u. point-of-withNext base tail (wordOf (mark + first f hf)) k ∙ base-still k (not-new k (in-use k u)) (in-rings f hf k (there k u)) .point)
+            (λ k u ne. told-still k (not-new k (in-use k u)) (in-rings f hf k (there k u)) ne .next)
+            (next-of-same base tail (wordOf (mark + first f hf)) tail-fits ∙ whole)
+            (ring-still dx base told (first f hf) next loop ring
+            (λ k u. record { point = point-of-withNext base tail (wordOf (mark + first f hf)) k; next = next-of-other base tail (wordOf (mark + first f hf)) k (loop-not-tail k u) }) base-ring)
+            (next-of-other base tail (wordOf (mark + first f hf)) next (λ e. not-new tail (in-use tail (omega (arith, tail-used, counted tail))) (sym e)) ∙ base-end)
+            held-rings)
           where
             counted : (k : ℕ) → total (uses k) loops ≡ total (uses k) (q ∷ qs)
             counted k = ap (total (uses k)) some
+
             there : (k : ℕ) → 1 ≤ total (uses k) (q ∷ qs) → 1 ≤ total (uses k) loops
             there k u = omega (arith, counted k)
+
             in-use : (k : ℕ) → 1 ≤ total (uses k) (q ∷ qs) → 1 ≤ used k
             in-use k u = unfold used in omega (arith, counted k)
+
             whole : wordOf (mark + first f hf) ≡ mark + first f hf
             whole = unfold wordOf mark in mod-eq-of-lt (omega (arith, below-next (first f hf) (chain-used f (first f hf) hf (first-used f hf))))
 
       pub close-held : count ≤ h → length loops + 1 < 2 ^ 32 → next ≤ mark
-        → Held dx (suc next) (closed dx t next s f) (rules.close d f (indexedPoint dx e)) (dropAt [] chains f) (loops ++ ((getD chains f [] ++ (next ∷ [])) ∷ []))
+          → Held dx (suc next) (closed dx t next s f) (rules.close d f (indexedPoint dx e)) (dropAt [] chains f) (loops ++ ((getD chains f [] ++ (next ∷ [])) ∷ []))
       unfolding closed closedLinks rules.close ring loop base behind extended told
       close-held fits small numbers = by loops refl
         where
@@ -535,26 +572,28 @@ module _ (dx next h : ℕ) (t : Tables) (d : Drawing) (chains loops : List (List
           after b =
               let links′ : List ℕ = cond b base (withNext base (t .progress .tail) (wordOf (mark + first f hf))) in
               record {
-              lines = released dx (t .lines) links′ (t .progress .count - 1) f;
-              links = links′;
-              progress = record { count = t .progress .count - 1; rings = wordOf (t .progress .rings + 1); head = cond b (first f hf) (t .progress .head); tail = next }
+                lines = released dx (t .lines) links′ (t .progress .count - 1) f;
+                links = links′;
+                progress = record { count = t .progress .count - 1; rings = wordOf (t .progress .rings + 1); head = cond b (first f hf) (t .progress .head); tail = next };
               }
+
           holds : Tables → Type 0
           holds t′ = Held dx (suc next) t′ (rules.close d f (indexedPoint dx e)) (dropAt [] chains f) (loops ++ (loop ∷ []))
+
           by : (l : List (List ℕ)) → loops ≡ l → holds (closed dx t next s f)
           by [] none =
               subst (λ (b : Bool). holds (after b)) (sym (eq-eqb (t .progress .rings) 0 (held .rings-are ∙ ap length none)))
               (closed-by base (first f hf) ring (λ i k hi ne u. base-still k (not-new k (chain-used i k hi u)) (other-chain f hf i k hi ne u))
-                (subst (λ (l : List (List ℕ)). HeldRings dx base (first f hf) (l ++ (loop ∷ [])) (d .rings ++ (ring ∷ [])) next) (sym none)
-                (subst (λ (l : List Line). HeldRings dx base (first f hf) (loop ∷ []) (l ++ (ring ∷ [])) next)
-                  (sym (no-rings (d .rings) (subst (λ (l : List (List ℕ)). HeldRings dx (t .links) (t .progress .head) l (d .rings) (t .progress .tail)) none (held .rings-held))))
-                  (base-ring, base-end)))
-                fits small)
+              (subst (λ (l : List (List ℕ)). HeldRings dx base (first f hf) (l ++ (loop ∷ [])) (d .rings ++ (ring ∷ [])) next) (sym none)
+              (subst (λ (l : List Line). HeldRings dx base (first f hf) (loop ∷ []) (l ++ (ring ∷ [])) next)
+              (sym (no-rings (d .rings) (subst (λ (l : List (List ℕ)). HeldRings dx (t .links) (t .progress .head) l (d .rings) (t .progress .tail)) none (held .rings-held))))
+              (base-ring, base-end)))
+              fits small)
           by (q ∷ qs) some =
               subst (λ (b : Bool). holds (after b)) (sym (ne-eqb (t .progress .rings) 0 (λ z. omega (arith, held .rings-are, ap length some))))
               (closed-by (told q qs some numbers) (t .progress .head) ring
-                (λ i k hi ne u. told-still q qs some numbers k (not-new k (chain-used i k hi u)) (other-chain f hf i k hi ne u) (not-tail q qs some numbers i k hi u))
-                (told-rings q qs some numbers) fits small)
+              (λ i k hi ne u. told-still q qs some numbers k (not-new k (chain-used i k hi u)) (other-chain f hf i k hi ne u) (not-tail q qs some numbers i k hi u))
+              (told-rings q qs some numbers) fits small)
 
       -- the lines that stay are held over the links as they then are
       pub closed-others : next ≤ mark → (i : ℕ) → i < count → (i ≡ f → ⊥) → HeldLine dx (closedLinks dx t next s f) (slotAt dx (t .lines) i) (chain-at i) (line-at i)
@@ -563,8 +602,10 @@ module _ (dx next h : ℕ) (t : Tables) (d : Drawing) (chains loops : List (List
         where
           links-by : Bool → List ℕ
           links-by b = cond b base (withNext base (t .progress .tail) (wordOf (mark + first f hf)))
+
           stays-over : (links′ : List ℕ) → ((k : ℕ) → 1 ≤ uses k (chain-at i) → Still (t .links) links′ k) → HeldLine dx links′ (slotAt dx (t .lines) i) (chain-at i) (line-at i)
           stays-over links′ still = line-still dx (t .links) links′ (slot-at i) (chain-at i) (line-at i) still (held .lines-held i hi)
+
           by : (l : List (List ℕ)) → loops ≡ l → HeldLine dx (closedLinks dx t next s f) (slotAt dx (t .lines) i) (chain-at i) (line-at i)
           by [] none =
               subst (λ (b : Bool). HeldLine dx (links-by b) (slotAt dx (t .lines) i) (chain-at i) (line-at i)) (sym (eq-eqb (t .progress .rings) 0 (held .rings-are ∙ ap length none)))

@@ -81,17 +81,19 @@ module _ (dx : ℕ) (lines links : List ℕ) (m i : ℕ) where
 
 -- the lines that are left are held in their new places
 pub lines-left : (dx : ℕ) (lines links : List ℕ) (chains : List (List ℕ)) (ls : List Line) (m g : ℕ)
-  → length ls ≡ suc m → length chains ≡ suc m → g < suc m → dx + 2 + 4 * suc m ≤ length lines
-  → ((i : ℕ) → i < suc m → (i ≡ g → ⊥) → HeldLine dx links (slotAt dx lines i) (getD chains i []) (getD ls i []))
-  → (j : ℕ) → j < m → HeldLine dx links (slotAt dx (released dx lines links m g) j) (getD (dropAt [] chains g) j []) (getD (dropAt [] ls g) j [])
+    → length ls ≡ suc m → length chains ≡ suc m → g < suc m → dx + 2 + 4 * suc m ≤ length lines
+    → ((i : ℕ) → i < suc m → (i ≡ g → ⊥) → HeldLine dx links (slotAt dx lines i) (getD chains i []) (getD ls i []))
+    → (j : ℕ) → j < m → HeldLine dx links (slotAt dx (released dx lines links m g) j) (getD (dropAt [] chains g) j []) (getD (dropAt [] ls g) j [])
 unfolding released
 lines-left dx lines links chains ls m g nl nc hg room held j hj = by (ℕ-discrete g m) (ℕ-discrete j g)
   where
     goal : List ℕ → Type 0
     goal after = HeldLine dx links (slotAt dx after j) (getD (dropAt [] chains g) j []) (getD (dropAt [] ls g) j [])
+
     others : (ne : j ≡ g → ⊥) → HeldLine dx links (slotAt dx lines j) (getD (dropAt [] chains g) j []) (getD (dropAt [] ls g) j [])
     others ne =
         rw (drop-other [] chains g m nc (omega arith) j hj ne, drop-other [] ls g m nl (omega arith) j hj ne) (held j (omega arith) ne)
+
     by : Dec (g ≡ m) → Dec (j ≡ g) → HeldLine dx links (slotAt dx (cond (eqb g m) lines (moved dx lines links m g)) j) (getD (dropAt [] chains g) j []) (getD (dropAt [] ls g) j [])
     by (yes e) q = rw (eq-eqb g m e) (others (λ k. omega arith))
     by (no ne) (yes e) =

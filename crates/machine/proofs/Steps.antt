@@ -71,61 +71,62 @@ module _ (dx h room : ℕ) (kept : Kept) (n : ℕ) (live live′ : Point → Typ
   module _ (f : ℕ) (hf : f < length (d .lines)) (fits : f < h) where
     -- ---- append
     pub append-carried : endsAt (indexedPoint dx s) (getD (d .lines) f []) ≡ true
-      → ((i : ℕ) → i < length (d .lines) → (p : Point) → Tip p (getD (rules.append d f (indexedPoint dx e) .lines) i []) → live′ p → edgeWord dx p ≡ edgeWord dx (indexedPoint dx e) → i ≡ f)
-      → ((i : ℕ) → i < length (d .lines) → (p : Point) → Tip p (getD (rules.append d f (indexedPoint dx e) .lines) i []) → live′ p → (p ≡ indexedPoint dx e → ⊥) → live p)
-      → Carried dx h room kept (suc n) live′ (rules.append d f (indexedPoint dx e)) (appended dx t n s f e (edgeWord dx (indexedPoint dx e)))
+        → ((i : ℕ) → i < length (d .lines) → (p : Point) → Tip p (getD (rules.append d f (indexedPoint dx e) .lines) i []) → live′ p → edgeWord dx p ≡ edgeWord dx (indexedPoint dx e) → i ≡ f)
+        → ((i : ℕ) → i < length (d .lines) → (p : Point) → Tip p (getD (rules.append d f (indexedPoint dx e) .lines) i []) → live′ p → (p ≡ indexedPoint dx e → ⊥) → live p)
+        → Carried dx h room kept (suc n) live′ (rules.append d f (indexedPoint dx e)) (appended dx t n s f e (edgeWord dx (indexedPoint dx e)))
     append-carried there alone keeps = record {
-        chains = _;
-        loops = now .loops;
-        held = after;
-        filed =
-            unfold rules.append appended in
-            filed-anew dx live live′ (t .lines) (d .lines) f (getD (d .lines) f [] ++ (indexedPoint dx e ∷ [])) (indexedPoint dx e) (firstLink dx (t .lines) f) n e (wordOf (linkCount dx (t .lines) f + 1))
-            hf (frontier-fits dx h room kept n live live′ d t now small) (now .filed) (framed-by dx (suc n) (appended dx t n s f e (edgeWord dx (indexedPoint dx e))) (rules.append d f (indexedPoint dx e)) _ (now .loops) after)
-            (appended-tips (indexedPoint dx s) (indexedPoint dx e) (getD (d .lines) f []) there) alone keeps;
-        lines-long = unfold appended in simp (length-set, length-withSlot) (now .lines-long);
-        links-long = unfold appended in simp (length-withNext, length-withLink) (now .links-long);
-        lines-past =
-            unfold appended in
-            past-filed dx h (withSlot dx (t .lines) f (firstLink dx (t .lines) f) n e (wordOf (linkCount dx (t .lines) f + 1))) (edgeWord dx (indexedPoint dx e)) f (word-in-frontier dx e)
-            ∙ past-withSlot dx h (t .lines) f (firstLink dx (t .lines) f) n e (wordOf (linkCount dx (t .lines) f + 1)) fits
-            ∙ now .lines-past;
-        links-past =
-            unfold appended in
-            past-withNext room (withLink (t .links) n s 0) (lastLink dx (t .lines) f) n
-              (omega (arith, last-below dx n h t d (now .chains) (now .loops) (now .held) (now .lines-long) (links-fit dx h room kept n live live′ d t now small) f hf))
-            ∙ past-withLink room (t .links) n s 0 small
-            ∙ now .links-past
-        }
+      chains = _;
+      loops = now .loops;
+      held = after;
+      filed =
+          unfold rules.append appended in
+          filed-anew dx live live′ (t .lines) (d .lines) f (getD (d .lines) f [] ++ (indexedPoint dx e ∷ [])) (indexedPoint dx e) (firstLink dx (t .lines) f) n e (wordOf (linkCount dx (t .lines) f + 1))
+          hf (frontier-fits dx h room kept n live live′ d t now small) (now .filed) (framed-by dx (suc n) (appended dx t n s f e (edgeWord dx (indexedPoint dx e))) (rules.append d f (indexedPoint dx e)) _ (now .loops) after)
+          (appended-tips (indexedPoint dx s) (indexedPoint dx e) (getD (d .lines) f []) there) alone keeps;
+      lines-long = unfold appended in simp (length-set, length-withSlot) (now .lines-long);
+      links-long = unfold appended in simp (length-withNext, length-withLink) (now .links-long);
+      lines-past =
+          unfold appended in
+          past-filed dx h (withSlot dx (t .lines) f (firstLink dx (t .lines) f) n e (wordOf (linkCount dx (t .lines) f + 1))) (edgeWord dx (indexedPoint dx e)) f (word-in-frontier dx e)
+          ∙ past-withSlot dx h (t .lines) f (firstLink dx (t .lines) f) n e (wordOf (linkCount dx (t .lines) f + 1)) fits
+          ∙ now .lines-past;
+      links-past =
+          unfold appended in
+          past-withNext room (withLink (t .links) n s 0) (lastLink dx (t .lines) f) n
+          (omega (arith, last-below dx n h t d (now .chains) (now .loops) (now .held) (now .lines-long) (links-fit dx h room kept n live live′ d t now small) f hf))
+          ∙ past-withLink room (t .links) n s 0 small
+          ∙ now .links-past;
+    }
       where
         at-end : indexedPoint dx s ≡ indexedPoint dx (endPoint dx (t .lines) f)
         at-end = ends-is dx (t .links) (slotAt dx (t .lines) f) (getD (now .chains) f []) (getD (d .lines) f []) (held-line dx h room kept n live live′ d t now small f hf) (indexedPoint dx s) there
+
         after : Held dx (suc n) (appended dx t n s f e (edgeWord dx (indexedPoint dx e))) (rules.append d f (indexedPoint dx e)) (set (now .chains) f (getD (now .chains) f [] ++ (n ∷ []))) (now .loops)
         after = append-held dx n h t d (now .chains) (now .loops) (now .held) (now .lines-long) (links-fit dx h room kept n live live′ d t now small) f hf s e (edgeWord dx (indexedPoint dx e)) (word-in-frontier dx e) fits at-end
 
     -- ---- prepend
     pub prepend-carried : startsAt (indexedPoint dx e) (getD (d .lines) f []) ≡ true
-      → ((i : ℕ) → i < length (d .lines) → (p : Point) → Tip p (getD (rules.prepend d f (indexedPoint dx s) .lines) i []) → live′ p → edgeWord dx p ≡ edgeWord dx (indexedPoint dx s) → i ≡ f)
-      → ((i : ℕ) → i < length (d .lines) → (p : Point) → Tip p (getD (rules.prepend d f (indexedPoint dx s) .lines) i []) → live′ p → (p ≡ indexedPoint dx s → ⊥) → live p)
-      → Carried dx h room kept (suc n) live′ (rules.prepend d f (indexedPoint dx s)) (prepended dx t n s f (edgeWord dx (indexedPoint dx s)))
+        → ((i : ℕ) → i < length (d .lines) → (p : Point) → Tip p (getD (rules.prepend d f (indexedPoint dx s) .lines) i []) → live′ p → edgeWord dx p ≡ edgeWord dx (indexedPoint dx s) → i ≡ f)
+        → ((i : ℕ) → i < length (d .lines) → (p : Point) → Tip p (getD (rules.prepend d f (indexedPoint dx s) .lines) i []) → live′ p → (p ≡ indexedPoint dx s → ⊥) → live p)
+        → Carried dx h room kept (suc n) live′ (rules.prepend d f (indexedPoint dx s)) (prepended dx t n s f (edgeWord dx (indexedPoint dx s)))
     prepend-carried there alone keeps = record {
-        chains = _;
-        loops = now .loops;
-        held = after;
-        filed =
-            unfold rules.prepend prepended in
-            filed-anew dx live live′ (t .lines) (d .lines) f (indexedPoint dx s ∷ getD (d .lines) f []) (indexedPoint dx s) n (lastLink dx (t .lines) f) (endPoint dx (t .lines) f) (wordOf (linkCount dx (t .lines) f + 1))
-            hf (frontier-fits dx h room kept n live live′ d t now small) (now .filed) (framed-by dx (suc n) (prepended dx t n s f (edgeWord dx (indexedPoint dx s))) (rules.prepend d f (indexedPoint dx s)) _ (now .loops) after)
-            (prepended-tips (indexedPoint dx s) (indexedPoint dx e) (getD (d .lines) f []) there) alone keeps;
-        lines-long = unfold prepended in simp (length-set, length-withSlot) (now .lines-long);
-        links-long = unfold prepended in simp length-withLink (now .links-long);
-        lines-past =
-            unfold prepended in
-            past-filed dx h (withSlot dx (t .lines) f n (lastLink dx (t .lines) f) (endPoint dx (t .lines) f) (wordOf (linkCount dx (t .lines) f + 1))) (edgeWord dx (indexedPoint dx s)) f (word-in-frontier dx s)
-            ∙ past-withSlot dx h (t .lines) f n (lastLink dx (t .lines) f) (endPoint dx (t .lines) f) (wordOf (linkCount dx (t .lines) f + 1)) fits
-            ∙ now .lines-past;
-        links-past = unfold prepended in past-withLink room (t .links) n s (firstLink dx (t .lines) f) small ∙ now .links-past
-        }
+      chains = _;
+      loops = now .loops;
+      held = after;
+      filed =
+          unfold rules.prepend prepended in
+          filed-anew dx live live′ (t .lines) (d .lines) f (indexedPoint dx s ∷ getD (d .lines) f []) (indexedPoint dx s) n (lastLink dx (t .lines) f) (endPoint dx (t .lines) f) (wordOf (linkCount dx (t .lines) f + 1))
+          hf (frontier-fits dx h room kept n live live′ d t now small) (now .filed) (framed-by dx (suc n) (prepended dx t n s f (edgeWord dx (indexedPoint dx s))) (rules.prepend d f (indexedPoint dx s)) _ (now .loops) after)
+          (prepended-tips (indexedPoint dx s) (indexedPoint dx e) (getD (d .lines) f []) there) alone keeps;
+      lines-long = unfold prepended in simp (length-set, length-withSlot) (now .lines-long);
+      links-long = unfold prepended in simp length-withLink (now .links-long);
+      lines-past =
+          unfold prepended in
+          past-filed dx h (withSlot dx (t .lines) f n (lastLink dx (t .lines) f) (endPoint dx (t .lines) f) (wordOf (linkCount dx (t .lines) f + 1))) (edgeWord dx (indexedPoint dx s)) f (word-in-frontier dx s)
+          ∙ past-withSlot dx h (t .lines) f n (lastLink dx (t .lines) f) (endPoint dx (t .lines) f) (wordOf (linkCount dx (t .lines) f + 1)) fits
+          ∙ now .lines-past;
+      links-past = unfold prepended in past-withLink room (t .links) n s (firstLink dx (t .lines) f) small ∙ now .links-past;
+    }
       where
         after : Held dx (suc n) (prepended dx t n s f (edgeWord dx (indexedPoint dx s))) (rules.prepend d f (indexedPoint dx s)) (set (now .chains) f (n ∷ getD (now .chains) f [])) (now .loops)
         after = prepend-held dx n h t d (now .chains) (now .loops) (now .held) (now .lines-long) (links-fit dx h room kept n live live′ d t now small) f hf s (edgeWord dx (indexedPoint dx s)) (word-in-frontier dx s) fits
@@ -139,29 +140,29 @@ module _ (dx h room : ℕ) (kept : Kept) (n : ℕ) (live live′ : Point → Typ
       by finish h = same-eq p b (unfold endsAt in h)
 
   pub start-carried : length (d .lines) < h → length (d .lines) + 1 < 2 ^ 32
-    → ((i : ℕ) → i < length (d .lines) → (p : Point) → Tip p (getD (d .lines) i []) → (edgeWord dx p ≡ edgeWord dx (indexedPoint dx s) → ⊥) × (edgeWord dx p ≡ edgeWord dx (indexedPoint dx e) → ⊥))
-    → ((i : ℕ) → i < length (d .lines) → (p : Point) → Tip p (getD (d .lines) i []) → live′ p → live p)
-    → Carried dx h room kept (suc n) live′ (rules.start d (indexedPoint dx s) (indexedPoint dx e)) (started dx t n s e (edgeWord dx (indexedPoint dx s)) (edgeWord dx (indexedPoint dx e)))
+      → ((i : ℕ) → i < length (d .lines) → (p : Point) → Tip p (getD (d .lines) i []) → (edgeWord dx p ≡ edgeWord dx (indexedPoint dx s) → ⊥) × (edgeWord dx p ≡ edgeWord dx (indexedPoint dx e) → ⊥))
+      → ((i : ℕ) → i < length (d .lines) → (p : Point) → Tip p (getD (d .lines) i []) → live′ p → live p)
+      → Carried dx h room kept (suc n) live′ (rules.start d (indexedPoint dx s) (indexedPoint dx e)) (started dx t n s e (edgeWord dx (indexedPoint dx s)) (edgeWord dx (indexedPoint dx e)))
   start-carried fits fits′ alone keeps = record {
-      chains = _;
-      loops = now .loops;
-      held = after;
-      filed =
-          unfold rules.start started in
-          subst (λ (k : ℕ). Filed dx live′ (set (set (withSlot dx (t .lines) k n n e 1) (edgeWord dx (indexedPoint dx s)) k) (edgeWord dx (indexedPoint dx e)) k) (d .lines ++ ((indexedPoint dx s ∷ indexedPoint dx e ∷ []) ∷ []))) (sym (now .held .count-is))
-          (filed-new dx live live′ (t .lines) (d .lines) (indexedPoint dx s ∷ indexedPoint dx e ∷ []) (indexedPoint dx s) (indexedPoint dx e) n n e 1 (frontier-fits dx h room kept n live live′ d t now small) (now .filed)
-          (unfold rules.start in framed-by dx (suc n) (started dx t n s e (edgeWord dx (indexedPoint dx s)) (edgeWord dx (indexedPoint dx e))) (rules.start d (indexedPoint dx s) (indexedPoint dx e)) _ (now .loops) after)
-          (start-tips (indexedPoint dx s) (indexedPoint dx e)) alone keeps (word-in-frontier dx s, word-in-frontier dx e));
-      lines-long = unfold started in simp (length-set, length-withSlot) (now .lines-long);
-      links-long = unfold started in simp length-withLink (now .links-long);
-      lines-past =
-          unfold started in
-          past-filed dx h (set (withSlot dx (t .lines) (t .progress .count) n n e 1) (edgeWord dx (indexedPoint dx s)) (t .progress .count)) (edgeWord dx (indexedPoint dx e)) (t .progress .count) (word-in-frontier dx e)
-          ∙ past-filed dx h (withSlot dx (t .lines) (t .progress .count) n n e 1) (edgeWord dx (indexedPoint dx s)) (t .progress .count) (word-in-frontier dx s)
-          ∙ past-withSlot dx h (t .lines) (t .progress .count) n n e 1 (omega (arith, now .held .count-is))
-          ∙ now .lines-past;
-      links-past = unfold started in past-withLink room (t .links) n s 0 small ∙ now .links-past
-      }
+    chains = _;
+    loops = now .loops;
+    held = after;
+    filed =
+        unfold rules.start started in
+        subst (λ (k : ℕ). Filed dx live′ (set (set (withSlot dx (t .lines) k n n e 1) (edgeWord dx (indexedPoint dx s)) k) (edgeWord dx (indexedPoint dx e)) k) (d .lines ++ ((indexedPoint dx s ∷ indexedPoint dx e ∷ []) ∷ []))) (sym (now .held .count-is))
+        (filed-new dx live live′ (t .lines) (d .lines) (indexedPoint dx s ∷ indexedPoint dx e ∷ []) (indexedPoint dx s) (indexedPoint dx e) n n e 1 (frontier-fits dx h room kept n live live′ d t now small) (now .filed)
+        (unfold rules.start in framed-by dx (suc n) (started dx t n s e (edgeWord dx (indexedPoint dx s)) (edgeWord dx (indexedPoint dx e))) (rules.start d (indexedPoint dx s) (indexedPoint dx e)) _ (now .loops) after)
+        (start-tips (indexedPoint dx s) (indexedPoint dx e)) alone keeps (word-in-frontier dx s, word-in-frontier dx e));
+    lines-long = unfold started in simp (length-set, length-withSlot) (now .lines-long);
+    links-long = unfold started in simp length-withLink (now .links-long);
+    lines-past =
+        unfold started in
+        past-filed dx h (set (withSlot dx (t .lines) (t .progress .count) n n e 1) (edgeWord dx (indexedPoint dx s)) (t .progress .count)) (edgeWord dx (indexedPoint dx e)) (t .progress .count) (word-in-frontier dx e)
+        ∙ past-filed dx h (withSlot dx (t .lines) (t .progress .count) n n e 1) (edgeWord dx (indexedPoint dx s)) (t .progress .count) (word-in-frontier dx s)
+        ∙ past-withSlot dx h (t .lines) (t .progress .count) n n e 1 (omega (arith, now .held .count-is))
+        ∙ now .lines-past;
+    links-past = unfold started in past-withLink room (t .links) n s 0 small ∙ now .links-past;
+  }
     where
       after : Held dx (suc n) (started dx t n s e (edgeWord dx (indexedPoint dx s)) (edgeWord dx (indexedPoint dx e))) (rules.start d (indexedPoint dx s) (indexedPoint dx e)) (now .chains ++ ((n ∷ []) ∷ [])) (now .loops)
       after = start-held dx n h t d (now .chains) (now .loops) (now .held) (now .lines-long) (links-fit dx h room kept n live live′ d t now small) s e (edgeWord dx (indexedPoint dx s)) (edgeWord dx (indexedPoint dx e)) (word-in-frontier dx s) (word-in-frontier dx e) fits fits′

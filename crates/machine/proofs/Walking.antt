@@ -50,7 +50,7 @@ module _ (dx : ℕ) (links : List ℕ) where
       ap₂ (λ (b : Bool) (m : ℕ). cond b (pointWords dx links k ++ walkPoints dx links first (linkNext links k) n) (pointWords dx links k ++ (pointWords dx links first ++ walkPoints dx links m m n))) (w .0) (w .1)
 
   walk-ring : (first a : ℕ) (chain : List ℕ) (z h n : ℕ) → Linked (linkNext links) a chain z → ((k : ℕ) → 1 ≤ uses k chain → k < mark) → linkNext links z ≡ mark + h
-    → walkPoints dx links first a (length chain + n) ≡ chainWords chain ++ (pointWords dx links first ++ walkPoints dx links h h n)
+      → walkPoints dx links first a (length chain + n) ≡ chainWords chain ++ (pointWords dx links first ++ walkPoints dx links h h n)
   unfolding chainWords
   walk-ring first a [] z h n l small e = absurd l
   walk-ring first a (x ∷ []) z h n l small e =
@@ -62,8 +62,8 @@ module _ (dx : ℕ) (links : List ℕ) where
       ap (walkPoints dx links first a) (suc-add (length (y ∷ c)) n)
       ∙ inner-step first a (length (y ∷ c) + n) (lt-ltb (linkNext links a) mark (omega (arith, small y (omega (arith, uses-cons y x (y ∷ c), uses-cons y y c, ap (when 1) (eq-eqb y y refl))), first-of (linkNext links x) y c z (l .1), ap (linkNext links) (l .0))))
       ∙ ap₂ (λ (m : ℕ) (w : List ℕ). pointWords dx links m ++ w) (sym (l .0))
-        (ap (λ (m : ℕ). walkPoints dx links first m (length (y ∷ c) + n)) (ap (linkNext links) (sym (l .0)))
-        ∙ walk-ring first (linkNext links x) (y ∷ c) z h n (l .1) (λ k u. small k (omega (arith, uses-cons k x (y ∷ c)))) e)
+      (ap (λ (m : ℕ). walkPoints dx links first m (length (y ∷ c) + n)) (ap (linkNext links) (sym (l .0)))
+      ∙ walk-ring first (linkNext links x) (y ∷ c) z h n (l .1) (λ k u. small k (omega (arith, uses-cons k x (y ∷ c)))) e)
       ∙ sym (append-assoc (pointWords dx links x) (chainWords (y ∷ c)) (pointWords dx links first ++ walkPoints dx links h h n))
 
   -- a held ring's words
@@ -72,7 +72,7 @@ module _ (dx : ℕ) (links : List ℕ) where
   small-words k s = ap₂ (λ (a b : ℕ). a ∷ b ∷ []) (mod-eq-of-lt (s .0)) (mod-eq-of-lt (s .1))
 
   ring-words : (chain : List ℕ) (k : ℕ) → Each Small (spelled dx links chain ++ (indexedPoint dx (linkPoint links k) ∷ []))
-    → ringWords (spelled dx links chain ++ (indexedPoint dx (linkPoint links k) ∷ [])) ≡ chainWords chain ++ pointWords dx links k
+      → ringWords (spelled dx links chain ++ (indexedPoint dx (linkPoint links k) ∷ [])) ≡ chainWords chain ++ pointWords dx links k
   unfolding spelled ringWords chainWords
   ring-words [] k s = sym (small-words k (s .0))
   ring-words (x ∷ chain) k s =
@@ -85,7 +85,7 @@ module _ (dx : ℕ) (links : List ℕ) where
 
   -- all rings
   pub points-walked : (head : ℕ) (loops : List (List ℕ)) (rings : List Line) (tail : ℕ) → HeldRings dx links head loops rings tail → ((k : ℕ) → 1 ≤ total (uses k) loops → k < mark) → Each (Each Small) rings
-    → walkPoints dx links head head (total length loops) ≡ packedPoints rings
+      → walkPoints dx links head head (total length loops) ≡ packedPoints rings
   unfolding total packedPoints
   points-walked head [] [] tail held numbers small = unfold walkPoints in refl
   points-walked head [] (ring ∷ rings) tail held numbers small = absurd held
@@ -101,7 +101,7 @@ module _ (dx : ℕ) (links : List ℕ) where
       walk-ring head head q (held .0) (held .1) (length q′ + total length qs) (held .2 .linked) (λ k u. numbers k (omega arith)) (held .3)
       ∙ sym (append-assoc (chainWords q) (pointWords dx links head) (walkPoints dx links (held .1) (held .1) (length q′ + total length qs)))
       ∙ ap₂ (λ (a b : List ℕ). a ++ b) (sym (held-words head (held .0) q ring (held .2) (small .0)))
-        (points-walked (held .1) (q′ ∷ qs) (ring′ ∷ rings) tail (held .4) (λ k u. numbers k (omega arith)) (small .1))
+      (points-walked (held .1) (q′ ∷ qs) (ring′ ∷ rings) tail (held .4) (λ k u. numbers k (omega arith)) (small .1))
 
   -- ---- records
 
@@ -116,7 +116,7 @@ module _ (dx : ℕ) (links : List ℕ) where
       ap₂ (λ (b : Bool) (m : ℕ). cond b (walkRecords links f (suc size) (linkNext links k) n) (recordWords f (size + 2) ++ walkRecords links (f + size + 2) 0 m n)) (w .0) (w .1)
 
   record-walked : (f size a : ℕ) (chain : List ℕ) (z h n : ℕ) → Linked (linkNext links) a chain z → ((k : ℕ) → 1 ≤ uses k chain → k < mark) → linkNext links z ≡ mark + h
-    → walkRecords links f size a (length chain + n) ≡ recordWords f (size + length chain + 1) ++ walkRecords links (f + (size + length chain + 1)) 0 h n
+      → walkRecords links f size a (length chain + n) ≡ recordWords f (size + length chain + 1) ++ walkRecords links (f + (size + length chain + 1)) 0 h n
   record-walked f size a [] z h n l small e = absurd l
   record-walked f size a (x ∷ []) z h n l small e =
       ap (walkRecords links f size a) (suc-add 0 n ∙ ap suc (zero-add n))
@@ -125,6 +125,7 @@ module _ (dx : ℕ) (links : List ℕ) where
     where
       count-is : size + 2 ≡ size + 1 + 1
       count-is = omega arith
+
       first-is : f + size + 2 ≡ f + (size + 1 + 1)
       first-is = omega arith
   record-walked f size a (x ∷ y ∷ c) z h n l small e =
@@ -164,7 +165,7 @@ module _ (dx : ℕ) (links : List ℕ) where
       same = omega arith
 
   pub records-walked : (k first head : ℕ) (loops : List (List ℕ)) (rings : List Line) (tail : ℕ) → HeldRings dx links head loops rings tail → ((k : ℕ) → 1 ≤ total (uses k) loops → k < mark) → first + total length rings < 2 ^ 32
-    → walkRecords links first 0 head (total length loops) ≡ bareRecords k first rings
+      → walkRecords links first 0 head (total length loops) ≡ bareRecords k first rings
   unfolding total bareRecords
   records-walked k first head [] [] tail held numbers fits = unfold walkRecords in refl
   records-walked k first head [] (ring ∷ rings) tail held numbers fits = absurd held
@@ -178,8 +179,8 @@ module _ (dx : ℕ) (links : List ℕ) where
   records-walked k first head (q ∷ q′ ∷ qs) (ring ∷ ring′ ∷ rings) tail held numbers fits =
       record-walked first 0 head q (held .0) (held .1) (length q′ + total length qs) (held .2 .linked) (λ m u. numbers m (omega arith)) (held .3)
       ∙ ap₂ (λ (a b : List ℕ). a ++ b) (bare-record k first q ring (held-length head (held .0) q ring (held .2)) (omega arith))
-        (ap (λ (f : ℕ). walkRecords links f 0 (held .1) (length q′ + total length qs)) next-first
-        ∙ records-walked (suc k) (first + length ring) (held .1) (q′ ∷ qs) (ring′ ∷ rings) tail (held .4) (λ m u. numbers m (omega arith)) (omega arith))
+      (ap (λ (f : ℕ). walkRecords links f 0 (held .1) (length q′ + total length qs)) next-first
+      ∙ records-walked (suc k) (first + length ring) (held .1) (q′ ∷ qs) (ring′ ∷ rings) tail (held .4) (λ m u. numbers m (omega arith)) (omega arith))
     where
       next-first : first + (0 + length q + 1) ≡ first + length ring
       next-first = omega (arith, held-length head (held .0) q ring (held .2))

@@ -28,8 +28,8 @@ use Rattle.machine.proofs.Shapes.{Near, at-left, at-top, Far, at-right,
 use Rattle.machine.proofs.CellStep.{index, back, placed-is, sound, ready₀, entry, lines₀, near-finished, far-finished, slot-inside, tip-at, words, fresh-at, with-stroke, sound-with, onward-first, backward-first, meeting-first}
 
 module _ (A : Sheet) {dx dy : ℕ} (out : Outside A dx dy) (r c : ℕ) (hc : c ≤ dx) (h room : ℕ) (kept : Kept) (t : Tables)
-  (now : Carried dx h room kept (length (segmentsAfter A dx r c)) all (stitchAll nothing (segmentsAfter A dx r c)) t)
-  (low : length (stitchAll nothing (segmentsAfter A dx r c) .lines) ≤ h) where
+    (now : Carried dx h room kept (length (segmentsAfter A dx r c)) all (stitchAll nothing (segmentsAfter A dx r c)) t)
+    (low : length (stitchAll nothing (segmentsAfter A dx r c) .lines) ≤ h) where
   abbrev before : List Segment
   before = segmentsAfter A dx r c
 
@@ -75,15 +75,17 @@ module _ (A : Sheet) {dx dy : ℕ} (out : Outside A dx dy) (r c : ℕ) (hc : c �
       where
         hs : free begin (near s) ≡ true
         hs = sampled (near s) (far e) [] fits .0
+
         he : free finish (far e) ≡ true
         he = sampled (near s) (far e) [] fits .1
+
         new : (slotOf slots s < length (stitchAll nothing (one-stroke (near s) (far e)) .lines)) × Tip (indexedPoint dx (at (far e))) (getD (stitchAll nothing (one-stroke (near s) (far e)) .lines) (slotOf slots s) [])
         new =
             appended-tip dx h room kept before (at (near s)) (at (far e)) (onFinished (near s)) (onFinished (far e)) (sound A out r c hc) (fresh-one (near s) (far e) hs he) small
             (far-finished A out r c hc h room kept t now e) (slotOf slots s) (slot-inside A out r c hc h room kept t now begin s hs) (tip-at A out r c hc h room kept t now low small begin s hs)
 
     backward-tip : (s : Far) (e : Near) → free begin (far s) ≡ true → free finish (near e) ≡ true
-      → (slotOf slots e < length (stitchAll nothing (one-stroke (far s) (near e)) .lines)) × Tip (indexedPoint dx (at (far s))) (getD (stitchAll nothing (one-stroke (far s) (near e)) .lines) (slotOf slots e) [])
+        → (slotOf slots e < length (stitchAll nothing (one-stroke (far s) (near e)) .lines)) × Tip (indexedPoint dx (at (far s))) (getD (stitchAll nothing (one-stroke (far s) (near e)) .lines) (slotOf slots e) [])
     backward-tip s e hs he =
         prepended-tip dx h room kept before (at (far s)) (at (near e)) (onFinished (far s)) (onFinished (near e)) (sound A out r c hc) (fresh-one (far s) (near e) hs he) small
         (far-finished A out r c hc h room kept t now s) (slotOf slots e) (slot-inside A out r c hc h room kept t now finish e he) (tip-at A out r c hc h room kept t now low small finish e he)
@@ -95,18 +97,20 @@ module _ (A : Sheet) {dx dy : ℕ} (out : Outside A dx dy) (r c : ℕ) (hc : c �
       where
         hs : free begin (far s) ≡ true
         hs = sampled (far s) (near e) [] fits .0
+
         he : free finish (near e) ≡ true
         he = sampled (far s) (near e) [] fits .1
 
     opening-cell : (s e : Far) → fitting free (far s ⟶ far e ∷ []) ≡ true → WordsApart dx (stitchAll nothing (one-stroke (far s) (far e)) .lines) → length (stitchAll nothing (one-stroke (far s) (far e)) .lines) ≤ h
-      → Carried dx h room kept (suc (length before)) all (stitchAll nothing (one-stroke (far s) (far e))) (started dx t (length before) (at (far s)) (at (far e)) (sideWord dx c (far s)) (sideWord dx c (far e)))
+        → Carried dx h room kept (suc (length before)) all (stitchAll nothing (one-stroke (far s) (far e))) (started dx t (length before) (at (far s)) (at (far e)) (sideWord dx c (far s)) (sideWord dx c (far e)))
     opening-cell s e fits final low′ =
         rw (← words A out r c hc h room kept t now low small begin (far s) hs, ← words A out r c hc h room kept t now low small finish (far e) he)
         (start-drawn dx h room kept before (at (far s)) (at (far e)) (onFinished (far s)) (onFinished (far e)) (sound A out r c hc) (fresh-one (far s) (far e) hs he) small all all t now
-          (far-finished A out r c hc h room kept t now s) (far-finished A out r c hc h room kept t now e) low′ h-small final (λ i hi p tip live. tt))
+        (far-finished A out r c hc h room kept t now s) (far-finished A out r c hc h room kept t now e) low′ h-small final (λ i hi p tip live. tt))
       where
         hs : free begin (far s) ≡ true
         hs = sampled (far s) (far e) [] fits .0
+
         he : free finish (far e) ≡ true
         he = sampled (far s) (far e) [] fits .1
 
@@ -175,25 +179,25 @@ module _ (A : Sheet) {dx dy : ℕ} (out : Outside A dx dy) (r c : ℕ) (hc : c �
 
     -- ---- saddle 10: a line closes or two join at Left and Top, then one opens at Right and Bottom
     ten-cell : fitting free (Left ⟶ Top ∷ Right ⟶ Bottom ∷ []) ≡ true → suc (length before) < room
-      → WordsApart dx (stitchAll nothing (before ++ map (placed c r) (Left ⟶ Top ∷ Right ⟶ Bottom ∷ [])) .lines)
-      → length (stitchAll nothing (before ++ map (placed c r) (Left ⟶ Top ∷ Right ⟶ Bottom ∷ [])) .lines) ≤ h → Goal (Left ⟶ Top ∷ Right ⟶ Bottom ∷ [])
+        → WordsApart dx (stitchAll nothing (before ++ map (placed c r) (Left ⟶ Top ∷ Right ⟶ Bottom ∷ [])) .lines)
+        → length (stitchAll nothing (before ++ map (placed c r) (Left ⟶ Top ∷ Right ⟶ Bottom ∷ [])) .lines) ≤ h → Goal (Left ⟶ Top ∷ Right ⟶ Bottom ∷ [])
     ten-cell fits small₂ final low′ =
         carried-two Left Top Right Bottom fits
         (subst (λ (n : ℕ). Carried dx h room kept (suc (length (one-stroke Left Top))) all (stitchAll nothing (two-strokes Left Top Right Bottom fits)) (drawStroke dx c slots (t₁ Left Top Right Bottom fits) (Right ⟶ Bottom) n (at Right) (at Bottom))) (long-one Left Top)
         (unfold drawStroke in
         subst (λ (w : ℕ). Carried dx h room kept (suc (length (one-stroke Left Top))) all (stitchAll nothing (two-strokes Left Top Right Bottom fits)) (started dx (t₁ Left Top Right Bottom fits) (length (one-stroke Left Top)) (at Right) (at Bottom) w c))
-          (words A out r c hc h room kept t now low small begin Right (hs₂ Left Top Right Bottom fits) ∙ unfold sideWord in refl)
+        (words A out r c hc h room kept t now low small begin Right (hs₂ Left Top Right Bottom fits) ∙ unfold sideWord in refl)
         (subst (λ (w : ℕ). Carried dx h room kept (suc (length (one-stroke Left Top))) all (stitchAll nothing (two-strokes Left Top Right Bottom fits)) (started dx (t₁ Left Top Right Bottom fits) (length (one-stroke Left Top)) (at Right) (at Bottom) (edgeWord dx (indexedPoint dx (at Right))) w))
-          (words A out r c hc h room kept t now low small finish Bottom (he₂ Left Top Right Bottom fits) ∙ unfold sideWord in refl)
+        (words A out r c hc h room kept t now low small finish Bottom (he₂ Left Top Right Bottom fits) ∙ unfold sideWord in refl)
         (start-drawn dx h room kept (one-stroke Left Top) (at Right) (at Bottom) (onFinished Right) (onFinished Bottom) (sound₁ Left Top Right Bottom fits) (fresh₂ Left Top Right Bottom fits) (omega (arith, long-one Left Top)) all all
-          (t₁ Left Top Right Bottom fits) (after-first Left Top Right Bottom fits all (meeting-cell at-left (hs₁ Left Top Right Bottom fits) (he₁ Left Top Right Bottom fits)))
-          (far-finished A out r c hc h room kept t now at-right) (far-finished A out r c hc h room kept t now at-bottom)
-          (subst (λ (σs : List Segment). length (stitchAll nothing σs .lines) ≤ h) (same-two Left Top Right Bottom fits) low′) h-small
-          (subst (λ (σs : List Segment). WordsApart dx (stitchAll nothing σs .lines)) (same-two Left Top Right Bottom fits) final) (λ i hi p tip live. tt)))))
+        (t₁ Left Top Right Bottom fits) (after-first Left Top Right Bottom fits all (meeting-cell at-left (hs₁ Left Top Right Bottom fits) (he₁ Left Top Right Bottom fits)))
+        (far-finished A out r c hc h room kept t now at-right) (far-finished A out r c hc h room kept t now at-bottom)
+        (subst (λ (σs : List Segment). length (stitchAll nothing σs .lines) ≤ h) (same-two Left Top Right Bottom fits) low′) h-small
+        (subst (λ (σs : List Segment). WordsApart dx (stitchAll nothing σs .lines)) (same-two Left Top Right Bottom fits) final) (λ i hi p tip live. tt)))))
 
     -- ---- saddle 5: the line at Left grows back to Bottom, whose word Top still has; then the line at Top, by the slot read before, grows to Right
     module _ (fits : fitting free (Bottom ⟶ Left ∷ Top ⟶ Right ∷ []) ≡ true) (small₂ : suc (length before) < room)
-      (final : WordsApart dx (stitchAll nothing (before ++ map (placed c r) (Bottom ⟶ Left ∷ Top ⟶ Right ∷ [])) .lines)) where
+        (final : WordsApart dx (stitchAll nothing (before ++ map (placed c r) (Bottom ⟶ Left ∷ Top ⟶ Right ∷ [])) .lines)) where
       abbrev T : Point
       T = indexedPoint dx (at Top)
 
@@ -220,17 +224,21 @@ module _ (A : Sheet) {dx dy : ℕ} (out : Outside A dx dy) (r c : ℕ) (hc : c �
       ends-at-top =
           subst (λ (d : Drawing). (top < length (d .lines)) × (endsAt T (getD (d .lines) top []) ≡ true))
           (sym (prepend-rule dx h room kept before (at Bottom) (at Left) (onFinished Bottom) (onFinished Left) (sound A out r c hc) (fresh-one Bottom Left hs he) small
-            (far-finished A out r c hc h room kept t now at-bottom) left (slot-inside A out r c hc h room kept t now finish at-left he) (tip-at A out r c hc h room kept t now low small finish at-left he)))
+          (far-finished A out r c hc h room kept t now at-bottom) left (slot-inside A out r c hc h room kept t now finish at-left he) (tip-at A out r c hc h room kept t now low small finish at-left he)))
           (unfold rules.prepend in (rw (length-set (stitchAll nothing before .lines) left new) inside, by (ℕ-discrete top left)))
         where
           new : Line
           new = indexedPoint dx (at Bottom) ∷ getD (stitchAll nothing before .lines) left []
+
           hs₂′ : free begin Top ≡ true
           hs₂′ = hs₂ Bottom Left Top Right fits
+
           inside : top < length (stitchAll nothing before .lines)
           inside = slot-inside A out r c hc h room kept t now begin at-top hs₂′
+
           there : endsAt T (getD (stitchAll nothing before .lines) top []) ≡ true
           there = tip-at A out r c hc h room kept t now low small begin at-top hs₂′
+
           by : Dec (top ≡ left) → endsAt T (getD (set (stitchAll nothing before .lines) left new) top []) ≡ true
           by (yes q) =
               ap (λ (n : ℕ). endsAt T (getD (set (stitchAll nothing before .lines) left new) n [])) q
@@ -257,9 +265,11 @@ module _ (A : Sheet) {dx dy : ℕ} (out : Outside A dx dy) (r c : ℕ) (hc : c �
         where
           grown : Line
           grown = getD lines₁ top [] ++ (indexedPoint dx (at Right) ∷ [])
+
           at-tip : (role : Role) → tipBy role p (getD lines₁ top []) ≡ true → Tip p grown
           at-tip begin k = record { role = begin; there = start-of-joined p T (getD lines₁ top []) (indexedPoint dx (at Right) ∷ []) (ends-at-top .1) ∙ k }
           at-tip finish k = absurd (ne (same-eq p T (sym (end-is p T (getD lines₁ top []) (ends-at-top .1)) ∙ k)))
+
           by : Dec (i ≡ top) → Tip p (getD (set lines₁ top grown) i [])
           by (yes q) =
               subst (λ (n : ℕ). Tip p (getD (set lines₁ top grown) n [])) (sym q)
@@ -280,10 +290,10 @@ module _ (A : Sheet) {dx dy : ℕ} (out : Outside A dx dy) (r c : ℕ) (hc : c �
       first-carried =
           backward-first A out r c hc h room kept t now low small (λ p. p ≡ T → ⊥) at-bottom at-left hs he
           (λ i hi p tip live w.
-            let later = tip-later i hi p tip live in
-            let new = backward-tip at-bottom at-left hs he in
-            let there = tip-later left (new .0) (indexedPoint dx (at Bottom)) (new .1) bottom-not-top in
-            final₂ i left (later .0) (there .0) p (indexedPoint dx (at Bottom)) (later .1) (there .1) w)
+          let later = tip-later i hi p tip live in
+          let new = backward-tip at-bottom at-left hs he in
+          let there = tip-later left (new .0) (indexedPoint dx (at Bottom)) (new .1) bottom-not-top in
+          final₂ i left (later .0) (there .0) p (indexedPoint dx (at Bottom)) (later .1) (there .1) w)
 
       -- Top is reached by both roles then
       top-spent : (i : ℕ) → i < length lines₂ → (p : Point) → Tip p (getD lines₂ i []) → p ≡ T → ⊥
@@ -301,9 +311,9 @@ module _ (A : Sheet) {dx dy : ℕ} (out : Outside A dx dy) (r c : ℕ) (hc : c �
           (subst (λ (n : ℕ). Carried dx h room kept (suc (length (one-stroke Bottom Left))) all (stitchAll nothing (two-strokes Bottom Left Top Right fits)) (drawStroke dx c slots (t₁ Bottom Left Top Right fits) (Top ⟶ Right) n (at Top) (at Right))) (long-one Bottom Left)
           (rw (draw-onward dx c slots (t₁ Bottom Left Top Right fits) at-top at-right (length (one-stroke Bottom Left)) (at Top) (at Right), ← words A out r c hc h room kept t now low small finish Right (he₂ Bottom Left Top Right fits))
           (append-drawn dx h room kept (one-stroke Bottom Left) (at Top) (at Right) (onFinished Top) (onFinished Right) (sound₁ Bottom Left Top Right fits) (fresh₂ Bottom Left Top Right fits) (omega (arith, long-one Bottom Left))
-            (λ p. p ≡ T → ⊥) all (t₁ Bottom Left Top Right fits) (after-first Bottom Left Top Right fits (λ p. p ≡ T → ⊥) first-carried) (far-finished A out r c hc h room kept t now at-right) top (ends-at-top .0) top-fits (ends-at-top .1)
-            (λ i hi p tip live w. final₂ i top hi (new-right .0) p (indexedPoint dx (at Right)) tip (new-right .1) w)
-            (λ i hi p tip live ne q. top-spent i hi p tip q))))
+          (λ p. p ≡ T → ⊥) all (t₁ Bottom Left Top Right fits) (after-first Bottom Left Top Right fits (λ p. p ≡ T → ⊥) first-carried) (far-finished A out r c hc h room kept t now at-right) top (ends-at-top .0) top-fits (ends-at-top .1)
+          (λ i hi p tip live w. final₂ i top hi (new-right .0) p (indexedPoint dx (at Right)) tip (new-right .1) w)
+          (λ i hi p tip live ne q. top-spent i hi p tip q))))
         where
           top-fits : top < h
           top-fits = omega (arith, slot-inside A out r c hc h room kept t now begin at-top (hs₂ Bottom Left Top Right fits))
@@ -316,8 +326,8 @@ module _ (A : Sheet) {dx dy : ℕ} (out : Outside A dx dy) (r c : ℕ) (hc : c �
 
   -- ---- any cell
   pub whole-cell : (strokes : List Stroke) → Shape strokes → fitting free strokes ≡ true → WordsApart dx (stitchAll nothing (before ++ map (placed c r) strokes) .lines)
-    → length (stitchAll nothing (before ++ map (placed c r) strokes) .lines) ≤ h → length (before ++ map (placed c r) strokes) ≤ room
-    → WordsApart dx (stitchAll nothing before .lines) → room ≤ mark → length (now .loops) ≤ length before → h < 2 ^ 32 → Goal strokes
+      → length (stitchAll nothing (before ++ map (placed c r) strokes) .lines) ≤ h → length (before ++ map (placed c r) strokes) ≤ room
+      → WordsApart dx (stitchAll nothing before .lines) → room ≤ mark → length (now .loops) ≤ length before → h < 2 ^ 32 → Goal strokes
   whole-cell [] quiet fits final low′ fit apart₀ numbers few h-small = unfold drawStrokes in rw (append-nil before) now
   whole-cell _ (onward s e) fits final low′ fit apart₀ numbers few h-small =
       onward-cell (one-fits (near s) (far e) fit) apart₀ numbers few h-small s e fits (subst (λ (σs : List Segment). WordsApart dx (stitchAll nothing σs .lines)) (same-one (near s) (far e)) final)
@@ -327,12 +337,12 @@ module _ (A : Sheet) {dx dy : ℕ} (out : Outside A dx dy) (r c : ℕ) (hc : c �
       carried-one Right Bottom
       (unfold drawStroke sideWord in
       opening-cell (one-fits Right Bottom fit) apart₀ numbers few h-small at-right at-bottom fits (subst (λ (σs : List Segment). WordsApart dx (stitchAll nothing σs .lines)) (same-one Right Bottom) final)
-        (subst (λ (σs : List Segment). length (stitchAll nothing σs .lines) ≤ h) (same-one Right Bottom) low′))
+      (subst (λ (σs : List Segment). length (stitchAll nothing σs .lines) ≤ h) (same-one Right Bottom) low′))
   whole-cell _ opening-up fits final low′ fit apart₀ numbers few h-small =
       carried-one Bottom Right
       (unfold drawStroke sideWord in
       opening-cell (one-fits Bottom Right fit) apart₀ numbers few h-small at-bottom at-right fits (subst (λ (σs : List Segment). WordsApart dx (stitchAll nothing σs .lines)) (same-one Bottom Right) final)
-        (subst (λ (σs : List Segment). length (stitchAll nothing σs .lines) ≤ h) (same-one Bottom Right) low′))
+      (subst (λ (σs : List Segment). length (stitchAll nothing σs .lines) ≤ h) (same-one Bottom Right) low′))
   whole-cell _ meeting-up fits final low′ fit apart₀ numbers few h-small =
       carried-one Left Top (meeting-cell (one-fits Left Top fit) apart₀ numbers few h-small at-left (head-fits free (Left ⟶ Top) [] fits begin) (head-fits free (Left ⟶ Top) [] fits finish))
   whole-cell _ meeting-down fits final low′ fit apart₀ numbers few h-small =

@@ -60,49 +60,49 @@ module _ (A : Sheet) {dx dy : ℕ} (out : Outside A dx dy) (h room : ℕ) (kept 
   run-cell : (r c : ℕ) (run : Run) → r ≤ dy → c ≤ dx → RunHolds r c run → RunHolds r (suc c) (drawCell A dx run c r)
   unfolding drawCell cellNumber
   run-cell r c run hr hc k = record {
-      carried =
-          subst (λ (σs : List Segment). Carried dx h room kept (length σs) all (stitchAll nothing σs) (drawCell A dx run c r .tables)) (sym (one-cell-more r c))
-          (subst (λ (n : ℕ). Carried dx h room kept (length (segmentsAfter A dx r c ++ map (placed c r) (drawn (cellNumber A c r)))) all (stitchAll nothing (segmentsAfter A dx r c ++ map (placed c r) (drawn (cellNumber A c r)))) (drawStrokes dx c r (entryOf dx (run .tables .lines) c) (run .tables) (drawn (cellNumber A c r)) n)) (sym (k .next-is))
-          (whole-cell A out r c hc h room kept (run .tables) (k .carried) (low r c hr (omega arith)) (drawn (cellNumber A c r))
-            (shape-of (A c (suc r)) (A (suc c) (suc r)) (A (suc c) r) (A c r))
-            (strokes-fit (A c (suc r)) (A (suc c) (suc r)) (A (suc c) r) (A c r))
-            (subst (λ (σs : List Segment). WordsApart dx (stitchAll nothing σs .lines)) (one-cell-more r c) (apart r (suc c) (omega arith)))
-            (subst (λ (σs : List Segment). length (stitchAll nothing σs .lines) ≤ h) (one-cell-more r c) (low r (suc c) hr (omega arith)))
-            (subst (λ (σs : List Segment). length σs ≤ room) (one-cell-more r c) (omega (arith, segments-are-no-more A out r (suc c) hr (omega arith))))
-            (apart r c (omega arith)) numbers (few r c run k) h-small));
-      next-is =
-          ap (λ (n : ℕ). n + length (drawn (cellNumber A c r))) (k .next-is)
-          ∙ omega (arith, ap length (one-cell-more r c), length-append (segmentsAfter A dx r c) (map (placed c r) (drawn (cellNumber A c r))), length-map (drawn (cellNumber A c r)) (placed c r))
-      }
+    carried =
+        subst (λ (σs : List Segment). Carried dx h room kept (length σs) all (stitchAll nothing σs) (drawCell A dx run c r .tables)) (sym (one-cell-more r c))
+        (subst (λ (n : ℕ). Carried dx h room kept (length (segmentsAfter A dx r c ++ map (placed c r) (drawn (cellNumber A c r)))) all (stitchAll nothing (segmentsAfter A dx r c ++ map (placed c r) (drawn (cellNumber A c r)))) (drawStrokes dx c r (entryOf dx (run .tables .lines) c) (run .tables) (drawn (cellNumber A c r)) n)) (sym (k .next-is))
+        (whole-cell A out r c hc h room kept (run .tables) (k .carried) (low r c hr (omega arith)) (drawn (cellNumber A c r))
+        (shape-of (A c (suc r)) (A (suc c) (suc r)) (A (suc c) r) (A c r))
+        (strokes-fit (A c (suc r)) (A (suc c) (suc r)) (A (suc c) r) (A c r))
+        (subst (λ (σs : List Segment). WordsApart dx (stitchAll nothing σs .lines)) (one-cell-more r c) (apart r (suc c) (omega arith)))
+        (subst (λ (σs : List Segment). length (stitchAll nothing σs .lines) ≤ h) (one-cell-more r c) (low r (suc c) hr (omega arith)))
+        (subst (λ (σs : List Segment). length σs ≤ room) (one-cell-more r c) (omega (arith, segments-are-no-more A out r (suc c) hr (omega arith))))
+        (apart r c (omega arith)) numbers (few r c run k) h-small));
+    next-is =
+        ap (λ (n : ℕ). n + length (drawn (cellNumber A c r))) (k .next-is)
+        ∙ omega (arith, ap length (one-cell-more r c), length-append (segmentsAfter A dx r c) (map (placed c r) (drawn (cellNumber A c r))), length-map (drawn (cellNumber A c r)) (placed c r));
+  }
 
   module _ (lines links : List ℕ) (lines-long : dx + 2 + 4 * h ≤ length lines) (links-long : 2 * room ≤ length links)
-    (lines-kept : drop (dx + 2 + 4 * h) lines ≡ kept .past-lines) (links-kept : drop (2 * room) links ≡ kept .past-links) where
+      (lines-kept : drop (dx + 2 + 4 * h) lines ≡ kept .past-lines) (links-kept : drop (2 * room) links ≡ kept .past-links) where
     abbrev from : Run
     from = runOver lines links
 
     at-start : RunHolds 0 0 (runAfter A dx from 0 0)
     unfolding runAfter runOver segmentsAfter upTo along down stitchAll nothing
     at-start = record {
-        carried = record {
-          chains = [];
-          loops = [];
-          held = record {
-            count-is = refl;
-            chains-are = refl;
-            lines-held = λ i hi. absurd (not-suc-le-zero hi);
-            once = λ k. unfold total in omega arith;
-            unused = λ k hk. unfold total in refl;
-            rings-are = refl;
-            rings-held = tt
-            };
-          filed = λ i hi p tip live. absurd (not-suc-le-zero hi);
-          lines-long = lines-long;
-          links-long = links-long;
-          lines-past = lines-kept;
-          links-past = links-kept
-          };
-        next-is = refl
-        }
+      carried = record {
+        chains = [];
+        loops = [];
+        held = record {
+          count-is = refl;
+          chains-are = refl;
+          lines-held = λ i hi. absurd (not-suc-le-zero hi);
+          once = λ k. unfold total in omega arith;
+          unused = λ k hk. unfold total in refl;
+          rings-are = refl;
+          rings-held = tt;
+        };
+        filed = λ i hi p tip live. absurd (not-suc-le-zero hi);
+        lines-long = lines-long;
+        links-long = links-long;
+        lines-past = lines-kept;
+        links-past = links-kept;
+      };
+      next-is = refl;
+    }
 
     along-row : (r c : ℕ) → r ≤ dy → c ≤ suc dx → RunHolds r 0 (runAfter A dx from r 0) → RunHolds r c (runAfter A dx from r c)
     unfolding runAfter upTo along

@@ -92,24 +92,24 @@ released dx lines links last i = cond (eqb i last) lines (moved dx lines links l
 module _ (dx : ℕ) (t : Tables) (k s : ℕ) where
   unfoldable pub started : ℕ → ℕ → ℕ → Tables
   started e ws we = record {
-      lines = set (set (withSlot dx (t .lines) (t .progress .count) k k e 1) ws (t .progress .count)) we (t .progress .count);
-      links = withLink (t .links) k s 0;
-      progress = record { count = wordOf (t .progress .count + 1); rings = t .progress .rings; head = t .progress .head; tail = t .progress .tail }
-      }
+    lines = set (set (withSlot dx (t .lines) (t .progress .count) k k e 1) ws (t .progress .count)) we (t .progress .count);
+    links = withLink (t .links) k s 0;
+    progress = record { count = wordOf (t .progress .count + 1); rings = t .progress .rings; head = t .progress .head; tail = t .progress .tail };
+  }
 
   unfoldable pub appended : ℕ → ℕ → ℕ → Tables
   appended f e we = record {
-      lines = set (withSlot dx (t .lines) f (firstLink dx (t .lines) f) k e (wordOf (linkCount dx (t .lines) f + 1))) we f;
-      links = withNext (withLink (t .links) k s 0) (lastLink dx (t .lines) f) k;
-      progress = t .progress
-      }
+    lines = set (withSlot dx (t .lines) f (firstLink dx (t .lines) f) k e (wordOf (linkCount dx (t .lines) f + 1))) we f;
+    links = withNext (withLink (t .links) k s 0) (lastLink dx (t .lines) f) k;
+    progress = t .progress;
+  }
 
   unfoldable pub prepended : ℕ → ℕ → Tables
   prepended g ws = record {
-      lines = set (withSlot dx (t .lines) g k (lastLink dx (t .lines) g) (endPoint dx (t .lines) g) (wordOf (linkCount dx (t .lines) g + 1))) ws g;
-      links = withLink (t .links) k s (firstLink dx (t .lines) g);
-      progress = t .progress
-      }
+    lines = set (withSlot dx (t .lines) g k (lastLink dx (t .lines) g) (endPoint dx (t .lines) g) (wordOf (linkCount dx (t .lines) g + 1))) ws g;
+    links = withLink (t .links) k s (firstLink dx (t .lines) g);
+    progress = t .progress;
+  }
 
   unfoldable pub joinedLinks : ℕ → ℕ → List ℕ
   joinedLinks f g = withNext (withLink (t .links) k s (firstLink dx (t .lines) g)) (lastLink dx (t .lines) f) k
@@ -122,10 +122,10 @@ module _ (dx : ℕ) (t : Tables) (k s : ℕ) where
 
   unfoldable pub joined : ℕ → ℕ → Tables
   joined f g = record {
-      lines = released dx (joinedLines f g) (joinedLinks f g) (t .progress .count - 1) g;
-      links = joinedLinks f g;
-      progress = record { count = t .progress .count - 1; rings = t .progress .rings; head = t .progress .head; tail = t .progress .tail }
-      }
+    lines = released dx (joinedLines f g) (joinedLinks f g) (t .progress .count - 1) g;
+    links = joinedLinks f g;
+    progress = record { count = t .progress .count - 1; rings = t .progress .rings; head = t .progress .head; tail = t .progress .tail };
+  }
 
   -- the ring's last link is k; the ring before it learns where this one begins
   unfoldable pub closedLinks : ℕ → List ℕ
@@ -136,15 +136,15 @@ module _ (dx : ℕ) (t : Tables) (k s : ℕ) where
 
   unfoldable pub closed : ℕ → Tables
   closed f = record {
-      lines = released dx (t .lines) (closedLinks f) (t .progress .count - 1) f;
-      links = closedLinks f;
-      progress = record {
-        count = t .progress .count - 1;
-        rings = wordOf (t .progress .rings + 1);
-        head = cond (eqb (t .progress .rings) 0) (firstLink dx (t .lines) f) (t .progress .head);
-        tail = k
-        }
-      }
+    lines = released dx (t .lines) (closedLinks f) (t .progress .count - 1) f;
+    links = closedLinks f;
+    progress = record {
+      count = t .progress .count - 1;
+      rings = wordOf (t .progress .rings + 1);
+      head = cond (eqb (t .progress .rings) 0) (firstLink dx (t .lines) f) (t .progress .head);
+      tail = k;
+    };
+  }
 
 -- the slots of the lines at a cell's left and top edge, as the frontier has them before the cell is drawn
 pub record Entry : Type 0 where
@@ -186,9 +186,9 @@ pub record Run : Type 0 where
 
 unfoldable pub drawCell : Sheet → ℕ → Run → ℕ → ℕ → Run
 drawCell A dx run c r = record {
-    tables = drawStrokes dx c r (entryOf dx (run .tables .lines) c) (run .tables) (drawn (cellNumber A c r)) (run .next);
-    next = run .next + length (drawn (cellNumber A c r))
-    }
+  tables = drawStrokes dx c r (entryOf dx (run .tables .lines) c) (run .tables) (drawn (cellNumber A c r)) (run .next);
+  next = run .next + length (drawn (cellNumber A c r));
+}
 
 -- after r whole rows and c cells of row r
 unfoldable pub runAfter : Sheet → ℕ → Run → ℕ → ℕ → Run
@@ -197,6 +197,6 @@ runAfter A dx run r c = upTo (drawCell A dx) run dx r c
 -- before the first cell
 unfoldable pub runOver : List ℕ → List ℕ → Run
 runOver lines links = record {
-    tables = record { lines = lines; links = links; progress = record { count = 0; rings = 0; head = 0; tail = 0 } };
-    next = 0
-    }
+  tables = record { lines = lines; links = links; progress = record { count = 0; rings = 0; head = 0; tail = 0 } };
+  next = 0;
+}

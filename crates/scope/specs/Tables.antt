@@ -1,10 +1,18 @@
--- The output tables: points packed in record order, and directory records. Assumes nothing.
+-- The tables at exit: work tables zeroed, points packed in record order, and directory records. Assumes nothing.
 use Prim.Native.Nat.{ℕ, suc, _+_}
 use mathlib.Core.List.{List, [], _∷_, _++_, map}
-use lib.ListN.{length}
+use lib.ListN.{length, drop, replicate}
 use Rattle.scope.specs.Cells.{Point}
 use Rattle.scope.specs.Stitching.{Line}
 use Rattle.scope.specs.Contour.{Fate, line, classWord, ownerWord}
+
+-- the needed words are zero, and those past the need as they were
+unfoldable pub zeroed : ℕ → List ℕ → List ℕ
+zeroed need table = replicate need 0 ++ drop need table
+
+-- words written from the first on, and those not written as they were
+unfoldable pub written : List ℕ → List ℕ → List ℕ
+written words table = words ++ drop (length words) table
 
 -- a ring's points as words X, Y, X, Y, and so on
 unfoldable pub ringWords : Line → List ℕ

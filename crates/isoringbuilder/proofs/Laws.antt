@@ -1,0 +1,242 @@
+-- From the pass and the packing to the contracts of the second report and contour_rings; and that each contract leaves one result.
+-- Assumes nothing.
+use mathlib.Core.Path.{_≡_, refl, sym, _∙_, ap, ap₂, subst}
+use mathlib.Core.Bool.{Bool, true, false, cond}
+use mathlib.Core.List.{List, _++_}
+use Prim.Native.Nat.{ℕ, suc, min, _+_, _*_, _^_, _≤_, _<_}
+use native.Mathlib.Omega.{arith}
+use lib.Dec.{ltb}
+use lib.Ieee.{Float}
+use lib.ListN.{length, drop, replicate}
+use lib.Seq.{sets}
+use borrow.Author.Tests.{lt-ltb, le-ltb, ltb-false}
+use Rattle.error.specs.declared.Refusal.{Refusal}
+use Rattle.error.specs.declared.Refusal.the-variants.{OpenShort, LinksShort}
+use Rattle.scope.specs.Terrain.{Sheet, atLeast, terrain}
+use Rattle.scope.specs.Drawing.{segmentCount, ringCount, ringsOf, peak}
+use Rattle.scope.specs.Room.{openWords, linkWords, pointCount, pointWords, directoryWords}
+use Rattle.scope.specs.Tables.{zeroed, written, packedPoints, bareRecords}
+use Rattle.laws.proofs.Edges.{Outside}
+use Rattle.machine.specs.Machine.{Tables}
+use Rattle.machine.specs.Walk.{walkPoints, walkRecords}
+use Rattle.machine.proofs.Built.{points-found, records-found, lines-kept, links-kept, packed-points-fill-their-room, records-fill-their-room}
+use Rattle.packing.specs.Cleared.{cleared}
+use Rattle.packing.proofs.Laws.{stores-from-the-start}
+use Rattle.scan.specs.Grid.{gridFit, Sized}
+use Rattle.scan.specs.declared.GridFit.{GridFit}
+use Rattle.scan.specs.declared.GridFit.the-variants as fit-is
+use Rattle.scan.proofs.Laws.{a-grid-that-fits-is-sized}
+use Rattle.isoringbuilder.specs.Verdict.{Verdict, refused, passes, afterGrid, workVerdict, roomVerdict, outputVerdict}
+use Rattle.isoringbuilder.specs.Answers.{workAfter, outputAfter, reported, built, SecondReported, RingsBuilt}
+use Rattle.isoringbuilder.specs.Pass.{stitchedTables, passed, passTable, packed, Passed, Packed}
+use Rattle.isoringbuilder.specs.declared.Pass.{Pass}
+use Rattle.isoringbuilder.specs.declared.Pass.the-variants as pass-is
+use Rattle.isoringbuilder.specs.declared.Drawing.{Drawing}
+use Rattle.isoringbuilder.specs.declared.SecondReport.{SecondReport}
+use Rattle.isoringbuilder.specs.declared.SecondReport.the-variants as report-is
+use Rattle.isoringbuilder.specs.declared.Built.{Built}
+use Rattle.isoringbuilder.specs.declared.Built.the-variants as built-is
+use Rattle.isoringbuilder.proofs.Limits.{outside, segments-fit, points-fit, peak-fits, columns-fit, rows-fit}
+
+-- a verdict that passes: the grid fits, and so do both tables
+record Fitting (fit : GridFit) (m need n need′ : ℕ) : Type 0 where
+  grid : fit ≡ fit-is.Fits
+  first : need ≤ m
+  second : need′ ≤ n
+
+fitting : (fit : GridFit) (m need n need′ : ℕ) → afterGrid fit (cond (ltb m need) (refused OpenShort) (cond (ltb n need′) (refused LinksShort) passes)) ≡ passes → Fitting fit m need n need′
+unfolding afterGrid
+fitting (fit-is.Refused why) m need n need′ e = absurd (let z : _≡_ {A = ℕ} 0 1 = cc in omega arith)
+fitting fit-is.Fits m need n need′ e = by (ltb m need) (ltb n need′) refl refl e
+  where
+    by : (a b : Bool) → ltb m need ≡ a → ltb n need′ ≡ b → cond a (refused OpenShort) (cond b (refused LinksShort) passes) ≡ passes → Fitting fit-is.Fits m need n need′
+    by true b ea eb k = absurd (let z : _≡_ {A = ℕ} 0 1 = cc in omega arith)
+    by false true ea eb k = absurd (let z : _≡_ {A = ℕ} 0 1 = cc in omega arith)
+    by false false ea eb k = record { grid = refl; first = ltb-false m need ea; second = ltb-false n need′ eb }
+
+module _ (values : List Float) (threshold : Float) (dx dy : ℕ) (lines links : List ℕ) where
+  abbrev A : Sheet
+  A = terrain (atLeast threshold) values dx dy
+
+  abbrev verdict : Verdict
+  verdict = workVerdict (terrain (atLeast threshold) values dx dy) (length values) dx dy (length lines) (length links)
+
+  abbrev stitched : Tables
+  stitched = stitchedTables (terrain (atLeast threshold) values dx dy) dx dy lines links
+
+  -- what is known after a pass that was done
+  pub record Done (drawing : Drawing) (lines′ links′ : List ℕ) : Type 0 where
+    pub is-passes : workVerdict (terrain (atLeast threshold) values dx dy) (length values) dx dy (length lines) (length links) ≡ passes
+    pub is-drawing : drawing ≡ record {
+      segments = segmentCount (terrain (atLeast threshold) values dx dy) dx dy;
+      peak = peak (terrain (atLeast threshold) values dx dy) dx dy;
+      rings = ringCount (terrain (atLeast threshold) values dx dy) dx dy;
+      head = stitchedTables (terrain (atLeast threshold) values dx dy) dx dy lines links .progress .head;
+    }
+    pub lines-are : lines′ ≡ stitchedTables (terrain (atLeast threshold) values dx dy) dx dy lines links .lines
+    pub links-are : links′ ≡ stitchedTables (terrain (atLeast threshold) values dx dy) dx dy lines links .links
+    pub sized : Sized (length values) dx dy
+    pub lines-fit : openWords dx (peak (terrain (atLeast threshold) values dx dy) dx dy) ≤ length lines
+    pub links-fit : linkWords (segmentCount (terrain (atLeast threshold) values dx dy) dx dy) ≤ length links
+
+  pub done-facts : (answer : Pass) (drawing : Drawing) → answer ≡ pass-is.Done drawing → (lines′ links′ : List ℕ) → Passed values threshold dx dy lines links answer lines′ links′ → Done drawing lines′ links′
+  unfolding passed passTable
+  done-facts answer drawing is lines′ links′ k = by verdict refl (sym is ∙ k .answers) (k .lines-are) (k .links-are)
+    where
+      by : (v : Verdict) → verdict ≡ v → pass-is.Done drawing ≡ passed v A dx dy stitched → lines′ ≡ passTable v lines (stitched .lines) → links′ ≡ passTable v links (stitched .links) → Done drawing lines′ links′
+      by (refused why) e a b c = absurd (let z : _≡_ {A = ℕ} 0 1 = cc in omega arith)
+      by passes e a b c =
+          let fits : Fitting (gridFit (length values) dx dy) (length lines) (openWords dx (peak A dx dy)) (length links) (linkWords (segmentCount A dx dy)) =
+          fitting (gridFit (length values) dx dy) (length lines) (openWords dx (peak A dx dy)) (length links) (linkWords (segmentCount A dx dy)) (unfold workVerdict in e) in
+          record {
+            is-passes = e;
+            is-drawing = cc;
+            lines-are = b;
+            links-are = c;
+            sized = a-grid-that-fits-is-sized (length values) dx dy (fits .grid);
+            lines-fit = fits .first;
+            links-fit = fits .second;
+          }
+
+  -- what is known after a refused pass
+  refused-facts : (answer : Pass) (why : Refusal) → answer ≡ pass-is.Refused why → (lines′ links′ : List ℕ) → Passed values threshold dx dy lines links answer lines′ links′ → (verdict ≡ refused why) × (lines′ ≡ lines) × (links′ ≡ links)
+  unfolding passed passTable
+  refused-facts answer why is lines′ links′ k = by verdict refl (sym is ∙ k .answers) (k .lines-are) (k .links-are)
+    where
+      by : (v : Verdict) → verdict ≡ v → pass-is.Refused why ≡ passed v A dx dy stitched → lines′ ≡ passTable v lines (stitched .lines) → links′ ≡ passTable v links (stitched .links) → (verdict ≡ refused why) × (lines′ ≡ lines) × (links′ ≡ links)
+      by (refused other) e a b c = (e ∙ ap refused (same a), b, c)
+        where
+          same : pass-is.Refused why ≡ pass-is.Refused other → other ≡ why
+          same q = cc
+      by passes e a b c = absurd (let z : _≡_ {A = ℕ} 0 1 = cc in omega arith)
+
+  pub rings-refused : (answer : Pass) (why : Refusal) → answer ≡ pass-is.Refused why → (lines′ links′ : List ℕ) → Passed values threshold dx dy lines links answer lines′ links′ → (points directory : List ℕ)
+      → RingsBuilt values threshold dx dy lines links points directory (built-is.Refused why) lines′ links′ points directory
+  unfolding built workAfter outputAfter
+  rings-refused answer why is lines′ links′ k points directory =
+      let facts = refused-facts answer why is lines′ links′ k in
+      record {
+        answers = ap (λ (v : Verdict). built v (outputVerdict A dx dy (length points) (length directory)) A dx dy) (sym (facts .0));
+        lines-are = facts .1 ∙ ap (λ (v : Verdict). workAfter v (openWords dx (peak A dx dy)) lines) (sym (facts .0));
+        links-are = facts .2 ∙ ap (λ (v : Verdict). workAfter v (linkWords (segmentCount A dx dy)) links) (sym (facts .0));
+        points-are = ap (λ (v : Verdict). outputAfter v (outputVerdict A dx dy (length points) (length directory)) (packedPoints (ringsOf A dx dy)) points) (sym (facts .0));
+        directory-is = ap (λ (v : Verdict). outputAfter v (outputVerdict A dx dy (length points) (length directory)) (bareRecords 0 0 (ringsOf A dx dy)) directory) (sym (facts .0));
+      }
+
+  pub report-refused : (answer : Pass) (why : Refusal) → answer ≡ pass-is.Refused why → (lines′ links′ : List ℕ) → Passed values threshold dx dy lines links answer lines′ links′ → SecondReported values threshold dx dy lines links (report-is.Refused why) lines′ links′
+  unfolding reported workAfter
+  report-refused answer why is lines′ links′ k =
+      let facts = refused-facts answer why is lines′ links′ k in
+      record {
+        answers = ap (λ (v : Verdict). reported v A dx dy) (sym (facts .0));
+        lines-are = facts .1 ∙ ap (λ (v : Verdict). workAfter v (openWords dx (peak A dx dy)) lines) (sym (facts .0));
+        links-are = facts .2 ∙ ap (λ (v : Verdict). workAfter v (linkWords (segmentCount A dx dy)) links) (sym (facts .0));
+      }
+
+  module _ (drawing : Drawing) (lines′ links′ : List ℕ) (done : Done drawing lines′ links′) where
+    out-there : Outside (terrain (atLeast threshold) values dx dy) dx dy
+    out-there = outside values threshold dx dy (done .sized)
+
+    -- a cleared work table, where its words past the need are the caller's
+    zeroed-is : (need : ℕ) (table table′ : List ℕ) → need ≤ length table′ → drop need table′ ≡ drop need table → cleared table′ need ≡ zeroed need table
+    unfolding cleared zeroed
+    zeroed-is need table table′ long past = ap₂ (λ (n : ℕ) (l : List ℕ). replicate n 0 ++ l) less past
+      where
+        less : min need (length table′) ≡ need
+        less = omega arith
+
+    lines-zeroed : cleared lines′ (openWords dx (peak A dx dy)) ≡ zeroed (openWords dx (peak A dx dy)) lines
+    lines-zeroed =
+        let kept = lines-kept A out-there lines links (done .lines-fit) (done .links-fit) (segments-fit values threshold dx dy (done .sized)) (peak-fits values threshold dx dy (done .sized)) in
+        ap (λ (l : List ℕ). cleared l (openWords dx (peak A dx dy))) (done .lines-are)
+        ∙ unfold stitchedTables in zeroed-is (openWords dx (peak A dx dy)) lines (stitched .lines) (kept .0) (kept .1)
+
+    links-zeroed : cleared links′ (linkWords (segmentCount A dx dy)) ≡ zeroed (linkWords (segmentCount A dx dy)) links
+    links-zeroed =
+        let kept = links-kept A out-there lines links (done .lines-fit) (done .links-fit) (segments-fit values threshold dx dy (done .sized)) (peak-fits values threshold dx dy (done .sized)) in
+        ap (λ (l : List ℕ). cleared l (linkWords (segmentCount A dx dy))) (done .links-are)
+        ∙ unfold stitchedTables in zeroed-is (linkWords (segmentCount A dx dy)) links (stitched .links) (kept .0) (kept .1)
+
+    pub reported-done : SecondReported values threshold dx dy lines links
+        (report-is.Room (drawing .segments) (drawing .rings) (drawing .peak) (drawing .segments + drawing .rings))
+        (cleared lines′ (openWords dx (drawing .peak))) (cleared links′ (linkWords (drawing .segments)))
+    unfolding reported workAfter pointCount
+    reported-done = record {
+      answers =
+          ap (λ (d : Drawing). report-is.Room (d .segments) (d .rings) (d .peak) (d .segments + d .rings)) (done .is-drawing)
+          ∙ ap (λ (v : Verdict). reported v A dx dy) (sym (done .is-passes));
+      lines-are =
+          ap (λ (d : Drawing). cleared lines′ (openWords dx (d .peak))) (done .is-drawing) ∙ lines-zeroed
+          ∙ ap (λ (v : Verdict). workAfter v (openWords dx (peak A dx dy)) lines) (sym (done .is-passes));
+      links-are =
+          ap (λ (d : Drawing). cleared links′ (linkWords (d .segments))) (done .is-drawing) ∙ links-zeroed
+          ∙ ap (λ (v : Verdict). workAfter v (linkWords (segmentCount A dx dy)) links) (sym (done .is-passes));
+    }
+
+    -- the walks along the links store what document 01 writes
+    points-walked : walkPoints dx (stitched .links) (stitched .progress .head) (stitched .progress .head) (segmentCount A dx dy) ≡ packedPoints (ringsOf A dx dy)
+    unfolding stitchedTables
+    points-walked =
+        points-found A out-there lines links (done .lines-fit) (done .links-fit) (segments-fit values threshold dx dy (done .sized)) (peak-fits values threshold dx dy (done .sized))
+        (columns-fit values threshold dx dy (done .sized)) (rows-fit values threshold dx dy (done .sized))
+
+    records-walked : walkRecords (stitched .links) 0 0 (stitched .progress .head) (segmentCount A dx dy) ≡ bareRecords 0 0 (ringsOf A dx dy)
+    unfolding stitchedTables
+    records-walked =
+        records-found A out-there lines links (done .lines-fit) (done .links-fit) (segments-fit values threshold dx dy (done .sized)) (peak-fits values threshold dx dy (done .sized))
+        (points-fit values threshold dx dy (done .sized))
+
+    -- what packing answers and leaves, with the pass's numbers in place of the drawing's
+    with-numbers : (points directory : List ℕ) (answer : Built) (points′ directory′ : List ℕ) → Packed drawing dx links′ points directory answer points′ directory′
+        → Packed (record { segments = segmentCount A dx dy; peak = peak A dx dy; rings = ringCount A dx dy; head = stitched .progress .head }) dx (stitched .links) points directory answer points′ directory′
+    with-numbers points directory answer points′ directory′ k =
+        subst (λ (d : Drawing). Packed d dx (stitched .links) points directory answer points′ directory′) (done .is-drawing)
+        (subst (λ (l : List ℕ). Packed drawing dx l points directory answer points′ directory′) (done .links-are) k)
+
+    module _ (points directory : List ℕ) where
+      answered : (v : Verdict) → packed v (ringCount A dx dy) ≡ built passes v A dx dy
+      unfolding packed built
+      answered (refused why) = refl
+      answered passes = refl
+
+      points-out : (a b : Bool) → ltb (length points) (pointWords (segmentCount A dx dy) (ringCount A dx dy)) ≡ a → ltb (length directory) (directoryWords (ringCount A dx dy)) ≡ b
+          → passTable (roomVerdict (segmentCount A dx dy) (ringCount A dx dy) (length points) (length directory)) points (sets points 0 (walkPoints dx (stitched .links) (stitched .progress .head) (stitched .progress .head) (segmentCount A dx dy)))
+          ≡ outputAfter passes (outputVerdict A dx dy (length points) (length directory)) (packedPoints (ringsOf A dx dy)) points
+      unfolding outputVerdict roomVerdict passTable outputAfter written
+      points-out true b ea eb = rw ea
+      points-out false true ea eb = rw (ea, eb)
+      points-out false false ea eb =
+          rw (ea, eb, points-walked)
+          (stores-from-the-start points (packedPoints (ringsOf A dx dy)) (omega (arith, packed-points-fill-their-room A out-there, ltb-false (length points) (pointWords (segmentCount A dx dy) (ringCount A dx dy)) ea)))
+
+      directory-out : (a b : Bool) → ltb (length points) (pointWords (segmentCount A dx dy) (ringCount A dx dy)) ≡ a → ltb (length directory) (directoryWords (ringCount A dx dy)) ≡ b
+          → passTable (roomVerdict (segmentCount A dx dy) (ringCount A dx dy) (length points) (length directory)) directory (sets directory 0 (walkRecords (stitched .links) 0 0 (stitched .progress .head) (segmentCount A dx dy)))
+          ≡ outputAfter passes (outputVerdict A dx dy (length points) (length directory)) (bareRecords 0 0 (ringsOf A dx dy)) directory
+      unfolding outputVerdict roomVerdict passTable outputAfter written
+      directory-out true b ea eb = rw ea
+      directory-out false true ea eb = rw (ea, eb)
+      directory-out false false ea eb =
+          rw (ea, eb, records-walked)
+          (stores-from-the-start directory (bareRecords 0 0 (ringsOf A dx dy)) (omega (arith, records-fill-their-room A out-there, ltb-false (length directory) (directoryWords (ringCount A dx dy)) eb)))
+
+      pub built-done : (answer : Built) (points′ directory′ : List ℕ) → Packed drawing dx links′ points directory answer points′ directory′
+          → RingsBuilt values threshold dx dy lines links points directory answer
+          (cleared lines′ (openWords dx (drawing .peak))) (cleared links′ (linkWords (drawing .segments))) points′ directory′
+      unfolding workAfter outputVerdict
+      built-done answer points′ directory′ k =
+          let n = with-numbers points directory answer points′ directory′ k in
+          record {
+            answers = n .answers ∙ answered (roomVerdict (segmentCount A dx dy) (ringCount A dx dy) (length points) (length directory)) ∙ ap (λ (v : Verdict). built v (outputVerdict A dx dy (length points) (length directory)) A dx dy) (sym (done .is-passes));
+            lines-are =
+                ap (λ (d : Drawing). cleared lines′ (openWords dx (d .peak))) (done .is-drawing) ∙ lines-zeroed
+                ∙ ap (λ (v : Verdict). workAfter v (openWords dx (peak A dx dy)) lines) (sym (done .is-passes));
+            links-are =
+                ap (λ (d : Drawing). cleared links′ (linkWords (d .segments))) (done .is-drawing) ∙ links-zeroed
+                ∙ ap (λ (v : Verdict). workAfter v (linkWords (segmentCount A dx dy)) links) (sym (done .is-passes));
+            points-are =
+                n .points-are ∙ points-out (ltb (length points) (pointWords (segmentCount A dx dy) (ringCount A dx dy))) (ltb (length directory) (directoryWords (ringCount A dx dy))) refl refl
+                ∙ ap (λ (v : Verdict). outputAfter v (outputVerdict A dx dy (length points) (length directory)) (packedPoints (ringsOf A dx dy)) points) (sym (done .is-passes));
+            directory-is =
+                n .directory-is ∙ directory-out (ltb (length points) (pointWords (segmentCount A dx dy) (ringCount A dx dy))) (ltb (length directory) (directoryWords (ringCount A dx dy))) refl refl
+                ∙ ap (λ (v : Verdict). outputAfter v (outputVerdict A dx dy (length points) (length directory)) (bareRecords 0 0 (ringsOf A dx dy)) directory) (sym (done .is-passes));
+          }

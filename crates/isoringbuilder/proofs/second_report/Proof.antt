@@ -1,0 +1,99 @@
+-- `isoringbuilder::second_report` meets its contract: a refused pass has changed nothing, and after one that was done the counts are the definition's
+-- and both work tables are cleared. Assumes nothing.
+use mathlib.Core.Path.{ap}
+use Prim.Native.Nat.{_+_}
+use native.Mathlib.Omega.{arith}
+use Rattle.isoringbuilder.specs.declared.Drawing.{Drawing}
+use Rattle.isoringbuilder.proofs.Limits.{points-fit}
+use Rattle.isoringbuilder.proofs.Laws.{done-facts, report-refused, reported-done}
+use borrow.Author.Needs.{needs}
+use Rattle.isoringbuilder.proofs.second_report.Statement.{statement}
+use Rattle.isoringbuilder.proofs.second_report.Tie as tie
+use Rattle.isoringbuilder.proofs.second_report.Reads as reads
+use Rattle.isoringbuilder.proofs.second_report.Lts as lts
+use Rattle.isoringbuilder.proofs.link_words.Reads as link-words-reads
+use Rattle.isoringbuilder.proofs.open_words.Reads as open-words-reads
+use Rattle.isoringbuilder.proofs.run_pass.Reads as run-pass-reads
+use Rattle.packing.proofs.clear.Reads as clear-reads
+
+-- src/lib.rt:134:11
+run-pass-requires : tie.Need-run-pass-requires
+run-pass-requires c κs = search needs
+
+-- src/lib.rt:135:23
+enum-known-refusal : tie.Need-enum-known-refusal
+enum-known-refusal c = search needs
+
+-- src/lib.rt:136:20
+enum-known-drawing : tie.Need-enum-known-drawing
+enum-known-drawing c = search needs
+
+-- src/lib.rt:140:26
+add-points : tie.Need-add-points
+add-points c =
+    let start = c .before .before .before .before .before .before .before .before .before .before .before .before .before in
+    let facts = done-facts _ _ _ _ _ _ _ _ (c .before .drawing .given .1) _ _ (c .before .before .before .before .before .before .before .run-pass .ensures) in
+    let sum = ap (λ (d : Drawing). d .segments + d .rings) (facts .is-drawing) in
+    omega (arith, sum, points-fit (start .args .values .now) (start .args .level .threshold) _ _ (facts .sized))
+
+-- src/lib.rt:141:26
+open-words-requires : tie.Need-open-words-requires
+open-words-requires c κs = done-facts _ _ _ _ _ _ _ _ (c .before .before .drawing .given .1) _ _ (c .before .before .before .before .before .before .before .before .run-pass .ensures) .sized .columns
+
+-- src/lib.rt:141:13
+clear-requires : tie.Need-clear-requires
+clear-requires c κs = search needs
+
+-- src/lib.rt:142:26
+link-words-requires : tie.Need-link-words-requires
+link-words-requires c κs = search needs
+
+-- src/lib.rt:142:13
+clear-requires-2 : tie.Need-clear-requires-2
+clear-requires-2 c κs = search needs
+
+-- src/lib.rt:124:1
+same-length : tie.Need-same-length
+same-length c = search needs
+
+-- src/lib.rt:124:1
+same-length-2 : tie.Need-same-length-2
+same-length-2 c = search needs
+
+-- src/lib.rt:124:1
+returns : tie.Need-returns
+returns c = report-refused _ _ _ _ _ _ _ (c .before .refusal .given .0 .0) (c .before .refusal .given .1) _ _ (c .before .before .before .before .before .before .before .run-pass .ensures)
+
+-- src/lib.rt:124:1
+same-length-3 : tie.Need-same-length-3
+same-length-3 c = search needs
+
+-- src/lib.rt:124:1
+same-length-4 : tie.Need-same-length-4
+same-length-4 c = search needs
+
+-- src/lib.rt:124:1
+returns-2 : tie.Need-returns-2
+returns-2 c =
+    let facts = done-facts _ _ _ _ _ _ _ _ (c .before .before .before .before .before .before .before .before .before .before .before .drawing .given .1) _ _ (c .before .before .before .before .before .before .before .before .before .before .before .before .before .before .before .before .before .run-pass .ensures) in
+    rw (c .before .before .before .before .before .before .before .clear .ensures, c .before .before .before .before .before .before .before .before .open-words .ensures, c .before .before .clear2 .ensures, c .before .before .before .link-words .ensures)
+    (reported-done _ _ _ _ _ _ _ _ _ facts)
+
+pub second-report-spec : {M : Type 1} → statement M
+second-report-spec =
+    tie.close
+    (tie.spec
+    run-pass-requires
+    enum-known-refusal
+    enum-known-drawing
+    add-points
+    open-words-requires
+    clear-requires
+    link-words-requires
+    clear-requires-2
+    same-length
+    same-length-2
+    returns
+    same-length-3
+    same-length-4
+    returns-2)

@@ -1,0 +1,46 @@
+-- The stitching pass with its refusals, and the packing behind it, over the table machine: what each answers and leaves. Assumes nothing.
+use mathlib.Core.Path.{_≡_}
+use mathlib.Core.List.{List}
+use Prim.Native.Nat.{ℕ, suc}
+use lib.Ieee.{Float}
+use lib.ListN.{length}
+use lib.Seq.{sets}
+use Rattle.scope.specs.Terrain.{Sheet, atLeast, terrain}
+use Rattle.scope.specs.Drawing.{segmentCount, ringCount, peak}
+use Rattle.machine.specs.Machine.{Tables, runAfter, runOver}
+use Rattle.machine.specs.Walk.{walkPoints, walkRecords}
+use Rattle.isoringbuilder.specs.Verdict.{Verdict, refused, passes, workVerdict, roomVerdict}
+use Rattle.isoringbuilder.specs.declared.Built.{Built}
+use Rattle.isoringbuilder.specs.declared.Built.the-variants as built-is
+use Rattle.isoringbuilder.specs.declared.Drawing.{Drawing}
+use Rattle.isoringbuilder.specs.declared.Pass.{Pass}
+use Rattle.isoringbuilder.specs.declared.Pass.the-variants as pass-is
+
+-- the tables after all cells
+unfoldable pub stitchedTables : Sheet → ℕ → ℕ → List ℕ → List ℕ → Tables
+stitchedTables A dx dy lines links = runAfter A dx (runOver lines links) dy (suc dx) .tables
+
+-- S, H, R and the first ring's first link
+unfoldable pub passed : Verdict → Sheet → ℕ → ℕ → Tables → Pass
+passed (refused why) A dx dy t = pass-is.Refused why
+passed passes A dx dy t = pass-is.Done (record { segments = segmentCount A dx dy; peak = peak A dx dy; rings = ringCount A dx dy; head = t .progress .head })
+
+-- a table as it was, or as the pass left it
+unfoldable pub passTable : Verdict → List ℕ → List ℕ → List ℕ
+passTable (refused why) old new = old
+passTable passes old new = new
+
+-- what packing answers, and an output table as it was or as packing stores to it
+unfoldable pub packed : Verdict → ℕ → Built
+packed (refused why) rings = built-is.Refused why
+packed passes rings = built-is.Rings rings
+
+pub record Packed (drawing : Drawing) (dx : ℕ) (links points directory : List ℕ) (answer : Built) (points′ directory′ : List ℕ) : Type 0 where
+  pub answers : answer ≡ packed (roomVerdict (drawing .segments) (drawing .rings) (length points) (length directory)) (drawing .rings)
+  pub points-are : points′ ≡ passTable (roomVerdict (drawing .segments) (drawing .rings) (length points) (length directory)) points (sets points 0 (walkPoints dx links (drawing .head) (drawing .head) (drawing .segments)))
+  pub directory-is : directory′ ≡ passTable (roomVerdict (drawing .segments) (drawing .rings) (length points) (length directory)) directory (sets directory 0 (walkRecords links 0 0 (drawing .head) (drawing .segments)))
+
+pub record Passed (values : List Float) (threshold : Float) (dx dy : ℕ) (lines links : List ℕ) (answer : Pass) (lines′ links′ : List ℕ) : Type 0 where
+  pub answers : answer ≡ passed (workVerdict (terrain (atLeast threshold) values dx dy) (length values) dx dy (length lines) (length links)) (terrain (atLeast threshold) values dx dy) dx dy (stitchedTables (terrain (atLeast threshold) values dx dy) dx dy lines links)
+  pub lines-are : lines′ ≡ passTable (workVerdict (terrain (atLeast threshold) values dx dy) (length values) dx dy (length lines) (length links)) lines (stitchedTables (terrain (atLeast threshold) values dx dy) dx dy lines links .lines)
+  pub links-are : links′ ≡ passTable (workVerdict (terrain (atLeast threshold) values dx dy) (length values) dx dy (length lines) (length links)) links (stitchedTables (terrain (atLeast threshold) values dx dy) dx dy lines links .links)

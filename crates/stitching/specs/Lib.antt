@@ -1,0 +1,2 @@
+-- The stitching pass as the table machine has it.
+pub mod Values
