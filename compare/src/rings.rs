@@ -40,7 +40,7 @@ pub fn small_grids(samples: usize) -> impl Iterator<Item = Grid> {
 }
 
 /// Sample k is 1 where bit k of the choice is set, else 0.
-fn two_valued(dx: usize, dy: usize, choice: u32) -> Grid {
+pub fn two_valued(dx: usize, dy: usize, choice: u32) -> Grid {
     let values = (0..dx * dy).map(|k| f64::from(choice >> k & 1)).collect();
     Grid {
         dx,

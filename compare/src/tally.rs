@@ -13,18 +13,30 @@ pub struct Tally {
     differ: u64,
     float_asked: u64,
     float_differs: u64,
+    notes: Vec<String>,
 }
 
 impl Tally {
     /// One comparison: what a call had to answer, what it did, and the call in words.
     pub fn same(&mut self, expected: Answer, got: Answer, call: impl FnOnce() -> String) {
+        let difference = (got != expected).then(|| format!("expected {expected}, got {got}"));
+        self.holds(difference, call);
+    }
+
+    /// One comparison whose outcome is known: what differs, if anything, and the call in words.
+    pub fn holds(&mut self, difference: Option<String>, call: impl FnOnce() -> String) {
         self.compared += 1;
-        if got != expected {
+        if let Some(difference) = difference {
             self.differ += 1;
             if self.differ <= DESCRIBED {
-                println!("differs: {}: expected {expected}, got {got}", call());
+                println!("differs: {}: {difference}", call());
             }
         }
+    }
+
+    /// A line to print before the last one.
+    pub fn note(&mut self, line: &str) {
+        self.notes.push(line.to_string());
     }
 
     /// How the crate's float test fares against the exact one on slopes that no cell draws. Document 01
@@ -49,6 +61,9 @@ impl Tally {
              one in {} of {} calls",
             self.float_differs, self.float_asked
         );
+        for note in &self.notes {
+            println!("{note}");
+        }
         println!("{} compared, {} differ", self.compared, self.differ);
         self.compared > 0 && self.differ == 0
     }
@@ -68,7 +83,7 @@ pub fn contains_call(outer: &[u16], tested: &[u16]) -> String {
     )
 }
 
-fn listed(words: &[u16]) -> String {
+pub fn listed(words: &[u16]) -> String {
     let mut text: String = words
         .chunks(2)
         .take(POINTS_SHOWN)

@@ -1,2 +1,3 @@
 -- What the entries for C return, as functions of what they are passed.
 pub mod Entries
+pub mod Rings

@@ -1,11 +1,17 @@
-// The library for C and Rust. Each entry answers on every input: it returns 0 and sets the output,
-// or returns the refusal's number and leaves the output as it was. A slice passes as a pointer, then a length.
+// The library for C and Rust. Each entry answers on every input: it returns 0 and sets the outputs,
+// or returns the refusal's number and leaves the outputs as they were. A slice passes as a pointer, then a length.
 use area::AreaAnswer;
 use area::Containment;
+use cells::Level;
+use isoringbuilder::Built;
+use isoringbuilder::SecondReport;
+use scan::FirstReport;
 ghost use mathlib.Core.Path.{_≡_};
 ghost use Rattle.scope.specs.Area.{areaRefused};
 ghost use Rattle.scope.specs.Containment.{containsRefused};
+ghost use Rattle.scan.specs.Report.{firstReport};
 ghost use Rattle.contour_c.specs.Entries.{statusOf, areaOutput, containsOutput};
+ghost use Rattle.contour_c.specs.Rings.{firstStatus, firstSegments, firstPeak, SecondEntry, RingsEntry};
 
 // The area of a ring of words X, Y, X, Y, and so on: the crate's undivided one times 4, above 0 for a polygon.
 #[no_mangle]
@@ -42,5 +48,98 @@ pub extern "C" fn contour_contains(outer: &[u16], tested: &[u16], answer: &mut i
             0
         }
         Containment::Refused(refusal) => error::number(refusal),
+    }
+}
+
+// The segments that a grid draws at a threshold and the peak of its open lines, with no table at all.
+#[no_mangle]
+pub extern "C" fn contour_first_report(
+    values: &[f64],
+    threshold: f64,
+    dx: usize,
+    dy: usize,
+    segments: &mut u32,
+    peak: &mut u32,
+) -> u32
+    ensures { λ r. ⌜ r ≡ firstStatus (firstReport (now (values .entry)) threshold dx dy) ⌝ }
+    ensures { λ _. ⌜ now (segments .exit) ≡ firstSegments (now (segments .entry)) (firstReport (now (values .entry)) threshold dx dy) ⌝ }
+    ensures { λ _. ⌜ now (peak .exit) ≡ firstPeak (now (peak .entry)) (firstReport (now (values .entry)) threshold dx dy) ⌝ }
+{
+    match scan::first_report(values, Level { threshold }, dx, dy) {
+        FirstReport::Room {
+            segments: drawn,
+            peak: highest,
+        } => {
+            *segments = drawn;
+            *peak = highest;
+            0
+        }
+        FirstReport::Refused(refusal) => error::number(refusal),
+    }
+}
+
+// The segments, the rings and the peak of open lines of a grid at a threshold, over both work tables.
+#[no_mangle]
+pub extern "C" fn contour_second_report(
+    values: &[f64],
+    threshold: f64,
+    dx: usize,
+    dy: usize,
+    lines: &mut [u32],
+    links: &mut [u32],
+    segments: &mut u32,
+    rings: &mut u32,
+    peak: &mut u32,
+) -> u32
+    ensures { λ r. ⌜ SecondEntry (now (values .entry)) threshold dx dy (now (lines .entry)) (now (links .entry)) (now (segments .entry)) (now (rings .entry)) (now (peak .entry)) r
+        (now (lines .exit)) (now (links .exit)) (now (segments .exit)) (now (rings .exit)) (now (peak .exit)) ⌝ }
+{
+    match isoringbuilder::second_report(values, Level { threshold }, dx, dy, lines, links) {
+        SecondReport::Room {
+            segments: drawn,
+            rings: closed,
+            peak: highest,
+            points: _,
+        } => {
+            *segments = drawn;
+            *rings = closed;
+            *peak = highest;
+            0
+        }
+        SecondReport::Refused(refusal) => error::number(refusal),
+    }
+}
+
+// Every ring of a grid at a threshold, in the crate's order, as packed points and directory records.
+#[no_mangle]
+pub extern "C" fn contour_rings(
+    values: &[f64],
+    threshold: f64,
+    dx: usize,
+    dy: usize,
+    lines: &mut [u32],
+    links: &mut [u32],
+    points: &mut [u16],
+    directory: &mut [u32],
+    rings: &mut u32,
+) -> u32
+    ensures { λ r. ⌜ RingsEntry (now (values .entry)) threshold dx dy (now (lines .entry)) (now (links .entry)) (now (points .entry)) (now (directory .entry)) (now (rings .entry)) r
+        (now (lines .exit)) (now (links .exit)) (now (points .exit)) (now (directory .exit)) (now (rings .exit)) ⌝ }
+{
+    match isoringbuilder::contour_rings(
+        values,
+        Level { threshold },
+        dx,
+        dy,
+        lines,
+        links,
+        points,
+        directory,
+    ) {
+        Built::Rings(count) => {
+            *rings = count;
+            0
+        }
+        Built::Refused(refusal) => error::number(refusal),
     }
 }

@@ -1,0 +1,318 @@
+//! Calls of the two reports and of `contour_rings`. All that a call may write stands in one sheet of
+//! words, table beside table, with guard words before, between and behind them, and is compared whole.
+
+use crate::random::Random;
+use crate::rings::Grid;
+use std::ops::Range;
+
+extern "C" {
+    fn contour_first_report(
+        values: *const f64,
+        count: usize,
+        threshold: f64,
+        dx: usize,
+        dy: usize,
+        segments: *mut u32,
+        peak: *mut u32,
+    ) -> u32;
+    fn contour_second_report(
+        values: *const f64,
+        count: usize,
+        threshold: f64,
+        dx: usize,
+        dy: usize,
+        lines: *mut u32,
+        lines_words: usize,
+        links: *mut u32,
+        links_words: usize,
+        segments: *mut u32,
+        rings: *mut u32,
+        peak: *mut u32,
+    ) -> u32;
+    fn contour_rings(
+        values: *const f64,
+        count: usize,
+        threshold: f64,
+        dx: usize,
+        dy: usize,
+        lines: *mut u32,
+        lines_words: usize,
+        links: *mut u32,
+        links_words: usize,
+        points: *mut u16,
+        points_words: usize,
+        directory: *mut u32,
+        directory_words: usize,
+        rings: *mut u32,
+    ) -> u32;
+}
+
+#[derive(Clone, Copy, PartialEq)]
+pub enum Entry {
+    FirstReport,
+    SecondReport,
+    Rings,
+}
+
+impl Entry {
+    pub const ALL: [Entry; 3] = [Entry::FirstReport, Entry::SecondReport, Entry::Rings];
+
+    /// The tables that it is lent, in the order of their refusals.
+    pub fn tables(self) -> &'static [Table] {
+        match self {
+            Entry::FirstReport => &[],
+            Entry::SecondReport => &Table::ALL[..2],
+            Entry::Rings => &Table::ALL,
+        }
+    }
+
+    pub fn name(self) -> &'static str {
+        match self {
+            Entry::FirstReport => "contour_first_report",
+            Entry::SecondReport => "contour_second_report",
+            Entry::Rings => "contour_rings",
+        }
+    }
+}
+
+#[derive(Clone, Copy, PartialEq)]
+pub enum Table {
+    Lines,
+    Links,
+    Points,
+    Directory,
+}
+
+impl Table {
+    pub const ALL: [Table; 4] = [Table::Lines, Table::Links, Table::Points, Table::Directory];
+}
+
+/// How many words of each table are lent, or needed.
+#[derive(Clone, Copy)]
+pub struct Room(pub [usize; 4]);
+
+impl Room {
+    pub fn of(self, table: Table) -> usize {
+        self.0[table as usize]
+    }
+}
+
+/// A terrain as it is lent: the values between guard samples, which are above every threshold that has any
+/// above it. The number of values need not be that of the sides.
+pub struct Asked<'a> {
+    pub grid: &'a Grid,
+    values: Vec<f64>,
+}
+
+impl<'a> Asked<'a> {
+    pub fn new(grid: &'a Grid) -> Self {
+        let guards = [f64::INFINITY; GUARDS];
+        let values = [&guards, &grid.values[..], &guards].concat();
+        Asked { grid, values }
+    }
+
+    /// Whether the values and the guards are, bit for bit, what they were.
+    pub fn is_still(&self) -> bool {
+        let guards = [f64::INFINITY; GUARDS];
+        let all = guards.iter().chain(&self.grid.values).chain(&guards);
+        all.map(|value| value.to_bits())
+            .eq(self.values.iter().map(|value| value.to_bits()))
+    }
+
+    fn at(&self) -> *const f64 {
+        self.values[GUARDS..].as_ptr()
+    }
+}
+
+const GUARD: u32 = 0xC0DE_CA5E;
+const GUARDS: usize = 4;
+/// Stands in each output before a call: no count comes near it.
+const UNSET: u32 = 0x5A5A_5A5A;
+/// The places of the sheet: three tables and three outputs.
+const NAMES: [&str; 6] = [
+    "open table",
+    "link table",
+    "directory",
+    "*segments",
+    "*rings",
+    "*peak",
+];
+const LINES: usize = 0;
+const LINKS: usize = 1;
+const DIRECTORY: usize = 2;
+pub const SEGMENTS: usize = 3;
+pub const RINGS: usize = 4;
+pub const PEAK: usize = 5;
+
+/// All that a call may write.
+#[derive(Clone)]
+pub struct Lent {
+    words: Vec<u32>,
+    points: Vec<u16>,
+    room: Room,
+}
+
+impl Lent {
+    /// Tables of this room, with zeros, ones, small numbers or any numbers in them.
+    pub fn new(random: &mut Random, room: Room) -> Self {
+        let end = places(room)[5].end + GUARDS;
+        let mut lent = Lent {
+            words: vec![GUARD; end],
+            points: vec![GUARD as u16; room.of(Table::Points) + 2 * GUARDS],
+            room,
+        };
+        let kind = random.below(4);
+        let mut filler = || match kind {
+            0 => 0,
+            1 => u64::MAX,
+            2 => random.next() % 9,
+            _ => random.next(),
+        };
+        for table in [Table::Lines, Table::Links, Table::Directory] {
+            lent.table(table).fill_with(|| filler() as u32);
+        }
+        lent.points().fill_with(|| filler() as u16);
+        for output in [SEGMENTS, RINGS, PEAK] {
+            lent.set(output, UNSET);
+        }
+        lent
+    }
+
+    /// A table of 32-bit words.
+    pub fn table(&mut self, table: Table) -> &mut [u32] {
+        let place = match table {
+            Table::Lines => LINES,
+            Table::Links => LINKS,
+            Table::Directory => DIRECTORY,
+            Table::Points => unreachable!("the points are 16-bit words"),
+        };
+        &mut self.words[places(self.room)[place].clone()]
+    }
+
+    pub fn points(&mut self) -> &mut [u16] {
+        let end = self.points.len() - GUARDS;
+        &mut self.points[GUARDS..end]
+    }
+
+    /// Sets one of the three outputs.
+    pub fn set(&mut self, output: usize, number: u32) {
+        let place = places(self.room)[output].start;
+        self.words[place] = number;
+    }
+
+    /// Where a place of the sheet begins.
+    fn at(&mut self, place: usize) -> *mut u32 {
+        let start = places(self.room)[place].start;
+        unsafe { self.words.as_mut_ptr().add(start) }
+    }
+
+    /// The first word that is not as expected, in words.
+    pub fn difference(&self, expected: &Lent) -> Option<String> {
+        let word = |k: &usize| self.words[*k] != expected.words[*k];
+        if let Some(k) = (0..self.words.len()).find(word) {
+            let (wanted, got) = (expected.words[k], self.words[k]);
+            let place = named(k, &places(self.room));
+            return Some(format!("{place}: expected {wanted}, got {got}"));
+        }
+        let word = |k: &usize| self.points[*k] != expected.points[*k];
+        let k = (0..self.points.len()).find(word)?;
+        let (wanted, got) = (expected.points[k], self.points[k]);
+        let place = match k.checked_sub(GUARDS) {
+            Some(word) if word < self.room.of(Table::Points) => {
+                format!("word {word} of the points")
+            }
+            _ => "a guard word beside the points".to_string(),
+        };
+        Some(format!("{place}: expected {wanted}, got {got}"))
+    }
+}
+
+fn places(room: Room) -> [Range<usize>; 6] {
+    let mut end = 0;
+    let [lines, links, _, directory] = room.0;
+    [lines, links, directory, 1, 1, 1].map(|words| {
+        let start = end + GUARDS;
+        end = start + words;
+        start..end
+    })
+}
+
+/// The name of word k of the sheet.
+fn named(k: usize, places: &[Range<usize>; 6]) -> String {
+    match places.iter().position(|place| k < place.end) {
+        Some(at) if k >= places[at].start => match at {
+            0..=2 => format!("word {} of the {}", k - places[at].start, NAMES[at]),
+            _ => NAMES[at].to_string(),
+        },
+        Some(at) => format!("a guard word before the {}", NAMES[at]),
+        None => "a guard word behind all".to_string(),
+    }
+}
+
+/// Calls an entry with what is lent and returns its number.
+pub fn call(entry: Entry, asked: &Asked, lent: &mut Lent) -> u32 {
+    match entry {
+        Entry::FirstReport => first_report(asked, lent),
+        Entry::SecondReport => second_report(asked, lent),
+        Entry::Rings => rings(asked, lent),
+    }
+}
+
+fn first_report(asked: &Asked, lent: &mut Lent) -> u32 {
+    let grid = asked.grid;
+    unsafe {
+        contour_first_report(
+            asked.at(),
+            grid.values.len(),
+            grid.threshold,
+            grid.dx,
+            grid.dy,
+            lent.at(SEGMENTS),
+            lent.at(PEAK),
+        )
+    }
+}
+
+fn second_report(asked: &Asked, lent: &mut Lent) -> u32 {
+    let grid = asked.grid;
+    let [lines_words, links_words, _, _] = lent.room.0;
+    unsafe {
+        contour_second_report(
+            asked.at(),
+            grid.values.len(),
+            grid.threshold,
+            grid.dx,
+            grid.dy,
+            lent.at(LINES),
+            lines_words,
+            lent.at(LINKS),
+            links_words,
+            lent.at(SEGMENTS),
+            lent.at(RINGS),
+            lent.at(PEAK),
+        )
+    }
+}
+
+fn rings(asked: &Asked, lent: &mut Lent) -> u32 {
+    let grid = asked.grid;
+    let [lines_words, links_words, points_words, directory_words] = lent.room.0;
+    unsafe {
+        contour_rings(
+            asked.at(),
+            grid.values.len(),
+            grid.threshold,
+            grid.dx,
+            grid.dy,
+            lent.at(LINES),
+            lines_words,
+            lent.at(LINKS),
+            links_words,
+            lent.points().as_mut_ptr(),
+            points_words,
+            lent.at(DIRECTORY),
+            directory_words,
+            lent.at(RINGS),
+        )
+    }
+}

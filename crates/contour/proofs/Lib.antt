@@ -1,0 +1,2 @@
+-- What the contracts of the public face come to, for its callers.
+pub mod Theorems

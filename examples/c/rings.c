@@ -1,0 +1,97 @@
+/*
+ * Prints the rings of a 3 by 3 terrain that is above everywhere but in the centre. The reports size the
+ * tables.
+ *
+ *     cc -std=c99 -I include examples/c/rings.c target/staticlib/libcontour_c.a -o rings
+ */
+#include "contour.h"
+
+#include <inttypes.h>
+#include <stdio.h>
+#include <stdlib.h>
+
+#define DX 3
+#define DY 3
+#define COUNT (DX * DY)
+
+static const double values[COUNT] = {1, 1, 1, 1, 0, 1, 1, 1, 1};
+static const double threshold = 1;
+
+/* The tables of one terrain. */
+struct tables {
+    uint32_t *lines, *links, *directory;
+    uint16_t *points;
+    size_t lines_words, links_words, points_words, directory_words;
+};
+
+/* Room for so many words; never none, so that a null pointer means that there is no memory. */
+static void *room(size_t words, size_t size) {
+    void *table = calloc(words > 0 ? words : 1, size);
+    if (table == NULL) {
+        fputs("no memory\n", stderr);
+        exit(1);
+    }
+    return table;
+}
+
+/* Leaves the program unless a call succeeded. */
+static void demand(uint32_t number) {
+    if (number != 0) {
+        printf("refusal %" PRIu32 "\n", number);
+        exit(1);
+    }
+}
+
+/* Sizes the work tables by the first report and the outputs by the second. */
+static struct tables lend_tables(void) {
+    struct tables t;
+    uint32_t segments, rings, peak;
+    demand(contour_first_report(values, COUNT, threshold, DX, DY, &segments, &peak));
+    t.lines_words = 4 * (size_t)peak + DX + 2;
+    t.links_words = 2 * (size_t)segments;
+    t.lines = room(t.lines_words, sizeof *t.lines);
+    t.links = room(t.links_words, sizeof *t.links);
+    demand(contour_second_report(values, COUNT, threshold, DX, DY, t.lines, t.lines_words, t.links, t.links_words,
+                                 &segments, &rings, &peak));
+    t.points_words = 2 * ((size_t)segments + rings);
+    t.directory_words = 4 * (size_t)rings;
+    t.points = room(t.points_words, sizeof *t.points);
+    t.directory = room(t.directory_words, sizeof *t.directory);
+    return t;
+}
+
+static void print_ring(uint32_t number, const uint16_t *ring, size_t words) {
+    int64_t area;
+    printf("ring %" PRIu32 ": ", number);
+    for (size_t k = 0; k < words; k += 2) {
+        printf("(%d,%d)", ring[k], ring[k + 1]);
+    }
+    demand(contour_area(ring, words, &area));
+    printf(" area %" PRId64 "\n", area);
+}
+
+int main(void) {
+    struct tables t = lend_tables();
+    uint32_t rings, number, segments, peak;
+    int32_t answer;
+    demand(contour_rings(values, COUNT, threshold, DX, DY, t.lines, t.lines_words, t.links, t.links_words, t.points,
+                         t.points_words, t.directory, t.directory_words, &rings));
+    for (uint32_t k = 0; k < rings; k++) {
+        const uint32_t *record = t.directory + 4 * k;
+        print_ring(k, t.points + 2 * record[0], 2 * (size_t)record[1]);
+    }
+
+    const uint32_t *hole = t.directory, *outer = t.directory + 4;
+    demand(contour_contains(t.points + 2 * outer[0], 2 * (size_t)outer[1], t.points + 2 * hole[0],
+                            2 * (size_t)hole[1], &answer));
+    printf("ring 1 against ring 0: %" PRId32 "\n", answer);
+
+    number = contour_first_report(values, COUNT - 1, threshold, DX, DY, &segments, &peak);
+    printf("one value fewer: refusal %" PRIu32 "\n", number);
+
+    free(t.lines);
+    free(t.links);
+    free(t.points);
+    free(t.directory);
+    return 0;
+}

@@ -1,0 +1,110 @@
+/*
+ * Rings of a terrain of samples, their areas and containment: the C interface of libcontour_c.a.
+ *
+ * The library allocates nothing and keeps nothing between calls. The caller lends every table. A call
+ * returns 0 and has done its work, or returns the number of a refusal. Every input has an answer: each
+ * pointer need only reach the words that its count states, and what a call may write must not overlap
+ * anything else that it is lent.
+ *
+ * The terrain: dx columns and dy rows, each from 1 to 4,096, and dx * dy values, row after row. A sample is
+ * above when its value >= threshold; a NaN on either side is not above. Outside the grid nothing is above.
+ *
+ * Coordinates are doubled whole numbers: sample (column, row) stands at (2 * column + 1, 2 * row + 1), and
+ * every coordinate is at most 8,192. A ring is a closed list of points, its first point repeated last, as
+ * words x, y, x, y, and so on. A ring about samples that are above has a positive area, a hole a negative
+ * one.
+ *
+ * Sizes: S is the number of segments drawn, R the number of rings, H the largest number of lines that are
+ * open at a time.
+ *
+ *     table          words             of type
+ *     open table     4 * H + dx + 2    uint32_t
+ *     link table     2 * S             uint32_t
+ *     points         2 * (S + R)       uint16_t
+ *     directory      4 * R             uint32_t
+ *
+ * contour_first_report gives S and H, which size both work tables. contour_second_report, lent these,
+ * gives R too, which sizes the outputs. R is at most S / 4, for a caller who would rather not ask twice.
+ * S is at most 2 * dx * dy + dx + dy, and H at most (dx + 2) / 2.
+ *
+ * Refusals. The lowest that applies is returned, alone:
+ *
+ *      1   a side is 0 or above 4,096
+ *      2   the number of values is not dx * dy
+ *      5   the open table is short
+ *      6   the link table is short
+ *      7   the points are short
+ *      8   the directory is short
+ *     11   a ring has an odd number of words, no point, more than 67,108,864 points or a coordinate above
+ *          8,192
+ *
+ * A refused call changes nothing, except that 7 and 8 leave zeros in the needed words of both work tables,
+ * as success does. What the work tables hold at entry does not matter. Words past the need never change.
+ */
+#ifndef CONTOUR_H
+#define CONTOUR_H
+
+#include <stddef.h>
+#include <stdint.h>
+
+#ifdef __cplusplus
+extern "C" {
+#endif
+
+/*
+ * Counts S and H with no table at all.
+ *
+ * Returns 0 and sets *segments to S and *peak to H; or returns 1 or 2.
+ */
+uint32_t contour_first_report(const double *values, size_t count, double threshold, size_t dx, size_t dy,
+                              uint32_t *segments, uint32_t *peak);
+
+/*
+ * Counts S, R and H with both work tables: lines is the open table, links the link table.
+ *
+ * Returns 0, sets *segments, *rings and *peak, and leaves zeros in the needed words of both work tables; or
+ * returns 1, 2, 5 or 6.
+ */
+uint32_t contour_second_report(const double *values, size_t count, double threshold, size_t dx, size_t dy,
+                               uint32_t *lines, size_t lines_words, uint32_t *links, size_t links_words,
+                               uint32_t *segments, uint32_t *rings, uint32_t *peak);
+
+/*
+ * Draws the rings of the terrain, in the order in which they close.
+ *
+ * Returns 0, sets *rings to R, and leaves zeros in the needed words of both work tables. The points of all
+ * rings stand one ring after the other. The directory has four words a ring: the number of its first point,
+ * its number of points, 2 for a bare ring, and 4,294,967,295 for no owner. Ring k begins at word
+ * 2 * directory[4 * k] of the points and has 2 * directory[4 * k + 1] words.
+ *
+ * Or returns 1, 2, 5, 6, 7 or 8; points, directory and *rings then stay as they were.
+ */
+uint32_t contour_rings(const double *values, size_t count, double threshold, size_t dx, size_t dy,
+                       uint32_t *lines, size_t lines_words, uint32_t *links, size_t links_words,
+                       uint16_t *points, size_t points_words, uint32_t *directory, size_t directory_words,
+                       uint32_t *rings);
+
+/*
+ * The area of a ring: the sum over i of y(i-1) * x(i) - x(i-1) * y(i), the last point standing before the
+ * first. That is eight times the enclosed area, in squares of one step from sample to sample.
+ *
+ * Returns 0 and sets *area; or returns 11.
+ */
+uint32_t contour_area(const uint16_t *ring, size_t ring_words, int64_t *area);
+
+/*
+ * A tested ring against an outer one: the first tested point that is not on the boundary decides. It is 1
+ * inside, -1 outside, and 0 where every tested point is on the boundary or there is none. A point in the
+ * row of a closed ring's first point counts as on the boundary, since the first point repeated last makes a
+ * pair without length.
+ *
+ * Returns 0 and sets *answer; or returns 11. The tested ring may be empty, the outer one may not.
+ */
+uint32_t contour_contains(const uint16_t *outer, size_t outer_words, const uint16_t *tested, size_t tested_words,
+                          int32_t *answer);
+
+#ifdef __cplusplus
+}
+#endif
+
+#endif
