@@ -15,50 +15,50 @@ use Rattle.isoringbuilder.specs.declared.Built.the-variants as built-is
 use Rattle.contour_c.specs.Rings.{firstStatus, firstSegments, firstPeak, secondStatus, secondSegments, secondRings, secondPeak, builtStatus, builtRings, SecondEntry, RingsEntry}
 
 pub first-given : (s h old old′ : ℕ) (answer : FirstReport) → first-is.Room s h ≡ answer
-  → (0 ≡ firstStatus answer) × ((s ≡ firstSegments old answer) × (h ≡ firstPeak old′ answer))
+    → (0 ≡ firstStatus answer) × ((s ≡ firstSegments old answer) × (h ≡ firstPeak old′ answer))
 unfolding firstStatus firstSegments firstPeak
 first-given s h old old′ answer e = (ap firstStatus e, (ap (firstSegments old) e, ap (firstPeak old′) e))
 
 pub first-kept : (why : Refusal) (status old old′ : ℕ) (answer : FirstReport) → first-is.Refused why ≡ answer → status ≡ refusalNumber why
-  → (status ≡ firstStatus answer) × ((old ≡ firstSegments old answer) × (old′ ≡ firstPeak old′ answer))
+    → (status ≡ firstStatus answer) × ((old ≡ firstSegments old answer) × (old′ ≡ firstPeak old′ answer))
 unfolding firstStatus firstSegments firstPeak
 first-kept why status old old′ answer e k = (k ∙ ap firstStatus e, (ap (firstSegments old) e, ap (firstPeak old′) e))
 
 module _ {values : List Float} {threshold : Float} {dx dy : ℕ} {lines links lines′ links′ : List ℕ} where
   pub second-given : (s r h p segments rings peak : ℕ) (answer : SecondReport) → answer ≡ second-is.Room s r h p → SecondReported values threshold dx dy lines links answer lines′ links′
-    → SecondEntry values threshold dx dy lines links segments rings peak 0 lines′ links′ s r h
+      → SecondEntry values threshold dx dy lines links segments rings peak 0 lines′ links′ s r h
   unfolding secondStatus secondSegments secondRings secondPeak
   second-given s r h p segments rings peak answer e k = record {
-      answer = answer;
-      reported = k;
-      status-is = ap secondStatus (sym e);
-      segments-are = ap (secondSegments segments) (sym e);
-      rings-are = ap (secondRings rings) (sym e);
-      peak-is = ap (secondPeak peak) (sym e)
-      }
+    answer = answer;
+    reported = k;
+    status-is = ap secondStatus (sym e);
+    segments-are = ap (secondSegments segments) (sym e);
+    rings-are = ap (secondRings rings) (sym e);
+    peak-is = ap (secondPeak peak) (sym e);
+  }
 
   pub second-kept : (why : Refusal) (status segments rings peak : ℕ) (answer : SecondReport) → answer ≡ second-is.Refused why → status ≡ refusalNumber why
-    → SecondReported values threshold dx dy lines links answer lines′ links′ → SecondEntry values threshold dx dy lines links segments rings peak status lines′ links′ segments rings peak
+      → SecondReported values threshold dx dy lines links answer lines′ links′ → SecondEntry values threshold dx dy lines links segments rings peak status lines′ links′ segments rings peak
   unfolding secondStatus secondSegments secondRings secondPeak
   second-kept why status segments rings peak answer e n k = record {
-      answer = answer;
-      reported = k;
-      status-is = n ∙ ap secondStatus (sym e);
-      segments-are = ap (secondSegments segments) (sym e);
-      rings-are = ap (secondRings rings) (sym e);
-      peak-is = ap (secondPeak peak) (sym e)
-      }
+    answer = answer;
+    reported = k;
+    status-is = n ∙ ap secondStatus (sym e);
+    segments-are = ap (secondSegments segments) (sym e);
+    rings-are = ap (secondRings rings) (sym e);
+    peak-is = ap (secondPeak peak) (sym e);
+  }
 
   module _ {points directory points′ directory′ : List ℕ} where
     pub rings-given : (r rings : ℕ) (answer : Built) → answer ≡ built-is.Rings r → RingsBuilt values threshold dx dy lines links points directory answer lines′ links′ points′ directory′
-      → RingsEntry values threshold dx dy lines links points directory rings 0 lines′ links′ points′ directory′ r
+        → RingsEntry values threshold dx dy lines links points directory rings 0 lines′ links′ points′ directory′ r
     unfolding builtStatus builtRings
     rings-given r rings answer e k =
         record { answer = answer; built = k; status-is = ap builtStatus (sym e); rings-are = ap (builtRings rings) (sym e) }
 
     pub rings-kept : (why : Refusal) (status rings : ℕ) (answer : Built) → answer ≡ built-is.Refused why → status ≡ refusalNumber why
-      → RingsBuilt values threshold dx dy lines links points directory answer lines′ links′ points′ directory′
-      → RingsEntry values threshold dx dy lines links points directory rings status lines′ links′ points′ directory′ rings
+        → RingsBuilt values threshold dx dy lines links points directory answer lines′ links′ points′ directory′
+        → RingsEntry values threshold dx dy lines links points directory rings status lines′ links′ points′ directory′ rings
     unfolding builtStatus builtRings
     rings-kept why status rings answer e n k =
         record { answer = answer; built = k; status-is = n ∙ ap builtStatus (sym e); rings-are = ap (builtRings rings) (sym e) }

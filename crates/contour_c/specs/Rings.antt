@@ -53,7 +53,7 @@ builtRings old (built-is.Refused why) = old
 
 -- the second report's answer and tables are the library's, and the status and the outputs are that answer's
 pub record SecondEntry (values : List Float) (threshold : Float) (dx dy : ℕ) (lines links : List ℕ) (segments rings peak : ℕ) (status : ℕ) (lines′ links′ : List ℕ)
-  (segments′ rings′ peak′ : ℕ) : Type 0 where
+    (segments′ rings′ peak′ : ℕ) : Type 0 where
   pub answer : SecondReport
   pub reported : SecondReported values threshold dx dy lines links answer lines′ links′
   pub status-is : status ≡ secondStatus answer
@@ -63,7 +63,7 @@ pub record SecondEntry (values : List Float) (threshold : Float) (dx dy : ℕ) (
 
 -- contour_rings' answer and tables are the library's, and the status and the output are that answer's
 pub record RingsEntry (values : List Float) (threshold : Float) (dx dy : ℕ) (lines links points directory : List ℕ) (rings : ℕ) (status : ℕ)
-  (lines′ links′ points′ directory′ : List ℕ) (rings′ : ℕ) : Type 0 where
+    (lines′ links′ points′ directory′ : List ℕ) (rings′ : ℕ) : Type 0 where
   pub answer : Built
   pub built : RingsBuilt values threshold dx dy lines links points directory answer lines′ links′ points′ directory′
   pub status-is : status ≡ builtStatus answer
