@@ -1,4 +1,4 @@
--- Document 01 as definitions, one file a section, in its order and words. Every contract of the library cites these files and nothing else.
+-- Document 01 as definitions, one file a section, in its order and words. What the public face promises is said in these terms.
 pub mod Limits
 pub mod Terrain
 pub mod Cells
