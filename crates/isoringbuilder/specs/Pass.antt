@@ -5,11 +5,12 @@ use Prim.Native.Nat.{ℕ, suc}
 use lib.Ieee.{Float}
 use lib.ListN.{length}
 use lib.Seq.{sets}
-use Rattle.scope.specs.Terrain.{Sheet, atLeast, terrain}
+use Rattle.scope.specs.Terrain.{Sheet}
 use Rattle.scope.specs.Drawing.{segmentCount, ringCount, peak}
 use Rattle.machine.specs.Machine.{Tables, runAfter, runOver}
 use Rattle.machine.specs.Walk.{walkPoints, walkRecords}
-use Rattle.isoringbuilder.specs.Verdict.{Verdict, refused, passes, workVerdict, roomVerdict}
+use Rattle.isoringbuilder.specs.Verdict.{Verdict, refused, passes, roomVerdict}
+use Rattle.isoringbuilder.specs.Answers.{above, onEntry}
 use Rattle.isoringbuilder.specs.declared.Built.{Built}
 use Rattle.isoringbuilder.specs.declared.Built.the-variants as built-is
 use Rattle.isoringbuilder.specs.declared.Drawing.{Drawing}
@@ -41,6 +42,6 @@ pub record Packed (drawing : Drawing) (dx : ℕ) (links points directory : List 
   pub directory-is : directory′ ≡ passTable (roomVerdict (drawing .segments) (drawing .rings) (length points) (length directory)) directory (sets directory 0 (walkRecords links 0 0 (drawing .head) (drawing .segments)))
 
 pub record Passed (values : List Float) (threshold : Float) (dx dy : ℕ) (lines links : List ℕ) (answer : Pass) (lines′ links′ : List ℕ) : Type 0 where
-  pub answers : answer ≡ passed (workVerdict (terrain (atLeast threshold) values dx dy) (length values) dx dy (length lines) (length links)) (terrain (atLeast threshold) values dx dy) dx dy (stitchedTables (terrain (atLeast threshold) values dx dy) dx dy lines links)
-  pub lines-are : lines′ ≡ passTable (workVerdict (terrain (atLeast threshold) values dx dy) (length values) dx dy (length lines) (length links)) lines (stitchedTables (terrain (atLeast threshold) values dx dy) dx dy lines links .lines)
-  pub links-are : links′ ≡ passTable (workVerdict (terrain (atLeast threshold) values dx dy) (length values) dx dy (length lines) (length links)) links (stitchedTables (terrain (atLeast threshold) values dx dy) dx dy lines links .links)
+  pub answers : answer ≡ passed (onEntry values threshold dx dy lines links) (above values threshold dx dy) dx dy (stitchedTables (above values threshold dx dy) dx dy lines links)
+  pub lines-are : lines′ ≡ passTable (onEntry values threshold dx dy lines links) lines (stitchedTables (above values threshold dx dy) dx dy lines links .lines)
+  pub links-are : links′ ≡ passTable (onEntry values threshold dx dy lines links) links (stitchedTables (above values threshold dx dy) dx dy lines links .links)
