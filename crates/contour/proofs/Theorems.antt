@@ -1,4 +1,4 @@
--- What the contracts of the public face come to: one result on each entry (of the first report scan's laws say it), refusals given exactly where a
+-- What the contracts of the public face come to: one result on each entry, refusals given exactly where a
 -- table is short, exact room filled to the last word, and the peak in the reports. Assumes nothing.
 use mathlib.Core.Path.{_≡_, refl, sym, _∙_, ap, subst}
 use mathlib.Core.Bool.{Bool, true, false, cond}
@@ -33,6 +33,10 @@ use Rattle.isoringbuilder.specs.declared.Built.{Built}
 use Rattle.isoringbuilder.specs.declared.Built.the-variants as built-is
 
 -- ---- 1. one result
+
+-- the first report, area and contains answer what a definition gives for the entry: two such answers are equal
+pub one-answer : {Answer : Type 0} {given p q : Answer} → p ≡ given → q ≡ given → p ≡ q
+one-answer a b = a ∙ sym b
 
 module _ (values : List Float) (threshold : Float) (dx dy : ℕ) (lines links : List ℕ) where
   -- two results that meet the second report's contract on the same entry are equal

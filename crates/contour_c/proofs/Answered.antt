@@ -1,4 +1,5 @@
--- From what the library answers to what an entry for C returns and leaves: a law for each way that an answer can be made. Assumes nothing.
+-- From what the library answers to what an entry for C returns and leaves: a law for each way that an answer can be made; and that any two results
+-- of an entry coincide. Assumes nothing.
 use mathlib.Core.Path.{_≡_, refl, sym, _∙_, ap}
 use mathlib.Core.List.{List}
 use Prim.Native.Nat.{ℕ}
@@ -62,3 +63,33 @@ module _ {values : List Float} {threshold : Float} {dx dy : ℕ} {lines links li
     unfolding builtStatus builtRings
     rings-kept why status rings answer e n k =
         record { answer = answer; built = k; status-is = n ∙ ap builtStatus (sym e); rings-are = ap (builtRings rings) (sym e) }
+
+-- ---- one result
+
+module _ {values : List Float} {threshold : Float} {dx dy : ℕ} {lines links : List ℕ} where
+  -- two results that meet the contract of contour_second_report on the same entry are equal
+  pub one-second-entry : {s r h : ℕ} {p q : ℕ} {pl pk ql qk : List ℕ} {ps pr ph qs qr qh : ℕ} → SecondEntry values threshold dx dy lines links s r h p pl pk ps pr ph
+      → SecondEntry values threshold dx dy lines links s r h q ql qk qs qr qh → (p ≡ q) × (pl ≡ ql) × (pk ≡ qk) × (ps ≡ qs) × (pr ≡ qr) × (ph ≡ qh)
+  one-second-entry {s} {r} {h} a b =
+      let e = a .reported .answers ∙ sym (b .reported .answers) in (
+        a .status-is ∙ ap secondStatus e ∙ sym (b .status-is),
+        a .reported .lines-are ∙ sym (b .reported .lines-are),
+        a .reported .links-are ∙ sym (b .reported .links-are),
+        a .segments-are ∙ ap (secondSegments s) e ∙ sym (b .segments-are),
+        a .rings-are ∙ ap (secondRings r) e ∙ sym (b .rings-are),
+        a .peak-is ∙ ap (secondPeak h) e ∙ sym (b .peak-is),
+      )
+
+  -- two results that meet the contract of contour_rings on the same entry are equal
+  pub one-rings-entry : {points directory : List ℕ} {r : ℕ} {p q : ℕ} {pl pk pp pd ql qk qp qd : List ℕ} {pr qr : ℕ}
+      → RingsEntry values threshold dx dy lines links points directory r p pl pk pp pd pr → RingsEntry values threshold dx dy lines links points directory r q ql qk qp qd qr
+      → (p ≡ q) × (pl ≡ ql) × (pk ≡ qk) × (pp ≡ qp) × (pd ≡ qd) × (pr ≡ qr)
+  one-rings-entry {points} {directory} {r} a b =
+      let e = a .built .answers ∙ sym (b .built .answers) in (
+        a .status-is ∙ ap builtStatus e ∙ sym (b .status-is),
+        a .built .lines-are ∙ sym (b .built .lines-are),
+        a .built .links-are ∙ sym (b .built .links-are),
+        a .built .points-are ∙ sym (b .built .points-are),
+        a .built .directory-is ∙ sym (b .built .directory-is),
+        a .rings-are ∙ ap (builtRings r) e ∙ sym (b .rings-are),
+      )
