@@ -1,6 +1,10 @@
 //! Times the crate and our library on the same terrains, in one run and turn by turn, and the time to read
 //! the values once.
 
+/// The functions of our library, declared once for all who call it from Rust.
+#[allow(dead_code)]
+#[path = "../../bindings/rust/src/ffi.rs"]
+mod declared;
 mod ours;
 mod terrains;
 

@@ -1,34 +1,7 @@
 //! Our library's build: the first report sizes the tables, then the rings are drawn.
 
+use crate::declared::{contour_first_report, contour_rings};
 use crate::terrains::Terrain;
-
-extern "C" {
-    fn contour_first_report(
-        values: *const f64,
-        count: usize,
-        threshold: f64,
-        dx: usize,
-        dy: usize,
-        segments: *mut u32,
-        peak: *mut u32,
-    ) -> u32;
-    fn contour_rings(
-        values: *const f64,
-        count: usize,
-        threshold: f64,
-        dx: usize,
-        dy: usize,
-        lines: *mut u32,
-        lines_words: usize,
-        links: *mut u32,
-        links_words: usize,
-        points: *mut u16,
-        points_words: usize,
-        directory: *mut u32,
-        directory_words: usize,
-        rings: *mut u32,
-    ) -> u32;
-}
 
 /// The points of all rings and their directory, out of tables allocated here. A ring has four segments or
 /// more, which bounds the rings before they are drawn.

@@ -1,51 +1,10 @@
 //! Calls of the two reports and of `contour_rings`. All that a call may write stands in one sheet of
 //! words, table beside table, with guard words before, between and behind them, and is compared whole.
 
+use crate::declared::{contour_first_report, contour_rings, contour_second_report};
 use crate::random::Random;
 use crate::rings::Grid;
 use std::ops::Range;
-
-extern "C" {
-    fn contour_first_report(
-        values: *const f64,
-        count: usize,
-        threshold: f64,
-        dx: usize,
-        dy: usize,
-        segments: *mut u32,
-        peak: *mut u32,
-    ) -> u32;
-    fn contour_second_report(
-        values: *const f64,
-        count: usize,
-        threshold: f64,
-        dx: usize,
-        dy: usize,
-        lines: *mut u32,
-        lines_words: usize,
-        links: *mut u32,
-        links_words: usize,
-        segments: *mut u32,
-        rings: *mut u32,
-        peak: *mut u32,
-    ) -> u32;
-    fn contour_rings(
-        values: *const f64,
-        count: usize,
-        threshold: f64,
-        dx: usize,
-        dy: usize,
-        lines: *mut u32,
-        lines_words: usize,
-        links: *mut u32,
-        links_words: usize,
-        points: *mut u16,
-        points_words: usize,
-        directory: *mut u32,
-        directory_words: usize,
-        rings: *mut u32,
-    ) -> u32;
-}
 
 #[derive(Clone, Copy, PartialEq)]
 pub enum Entry {

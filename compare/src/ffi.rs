@@ -2,18 +2,8 @@
 //! limit, and the place for its result stands between two others, so that a call which reads or writes
 //! beside what it was lent, or writes where it must not, does not give the expected answer.
 
+use crate::declared::{contour_area, contour_contains};
 use std::fmt;
-
-extern "C" {
-    fn contour_area(ring: *const u16, words: usize, area: *mut i64) -> u32;
-    fn contour_contains(
-        outer: *const u16,
-        outer_words: usize,
-        tested: *const u16,
-        tested_words: usize,
-        answer: *mut i32,
-    ) -> u32;
-}
 
 /// What a call answered, or what is expected of it.
 #[derive(Clone, Copy, PartialEq)]

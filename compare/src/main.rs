@@ -15,6 +15,11 @@ mod refusals;
 mod rings;
 mod tally;
 
+/// The functions of our library, declared once for all who call it from Rust.
+#[allow(dead_code)]
+#[path = "../../bindings/rust/src/ffi.rs"]
+mod declared;
+
 #[cfg(feature = "rings")]
 mod drawing;
 #[cfg(feature = "rings")]
