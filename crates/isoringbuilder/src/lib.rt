@@ -2,6 +2,7 @@
 // ring or none. Neither asks anything of the caller: bad sides, lengths or room draw the lowest refusal that applies.
 use cells::Level;
 use error::Refusal;
+use packing::RECORD_STRIDE;
 use packing::clear;
 use packing::write_directory;
 use packing::write_points;
@@ -17,9 +18,6 @@ ghost use Rattle.scope.specs.Room.{openWords, linkWords};
 ghost use Rattle.scan.specs.Grid.{gridFit};
 ghost use Rattle.isoringbuilder.specs.Answers.{SecondReported, RingsBuilt};
 ghost use Rattle.isoringbuilder.specs.Pass.{Passed, Packed};
-
-// The words of a directory record: first point, point count, class, owner.
-pub const RECORD_STRIDE: usize = 4;
 
 // What the second report answers.
 pub enum SecondReport {

@@ -11,6 +11,9 @@ ghost use Rattle.packing.specs.Cleared.{cleared};
 // The last link of a ring holds this number, with the first link of the next ring added. No link has this number or a larger one.
 const MARK: u32 = 2147483648;
 
+// The words of a directory record: first point, point count, class, owner.
+pub const RECORD_STRIDE: usize = 4;
+
 // The class of a bare ring, in a directory record.
 const BARE_RING: u32 = 2;
 
@@ -126,7 +129,7 @@ pub fn write_directory(links: &[u32], head: u32, count: u32, directory: &mut [u3
         } else {
             let points = size + 2;
             put_record(directory, at, first, points);
-            at += 4;
+            at += RECORD_STRIDE;
             first += points;
             size = 0;
             k = next - MARK;
