@@ -4,9 +4,9 @@ use cells::Level;
 use error::Refusal;
 use packing::RECORD_STRIDE;
 use packing::clear;
-use packing::write_directory;
-use packing::write_points;
+use packing::write_rings;
 use scan::GridFit;
+use scan::TILES;
 use scan::grid_fit;
 use scan::scan;
 use stitching::stitch;
@@ -81,7 +81,8 @@ fn pass_over(
     requires { ⌜ gridFit (length (now values)) dx dy ≡ GridFit.Fits ⌝ }
     ensures { λ r. ⌜ Passed (now (values .entry)) (level .threshold) dx dy (now (lines .entry)) (now (links .entry)) r (now (lines .exit)) (now (links .exit)) ⌝ }
 {
-    let counts = scan(values, level, dx, dy);
+    let mut marks = [0u8; TILES];
+    let counts = scan(values, level, dx, dy, &mut marks);
     let segments = counts.segments;
     let peak = counts.peak;
     if lines.len() < open_words(dx, peak) {
@@ -90,7 +91,7 @@ fn pass_over(
     if links.len() < link_words(segments) {
         return Pass::Refused(Refusal::LinksShort);
     }
-    let progress = stitch(values, level, dx, dy, lines, links);
+    let progress = stitch(values, level, dx, dy, &marks, lines, links);
     let rings = progress.rings;
     let head = progress.head;
     Pass::Done(Drawing {
@@ -167,8 +168,7 @@ fn pack(
     if directory.len() < RECORD_STRIDE * (rings as usize) {
         return Built::Refused(Refusal::DirectoryShort);
     }
-    write_points(links, dx, head, segments, points);
-    write_directory(links, head, segments, directory);
+    write_rings(links, dx, head, segments, points, directory);
     Built::Rings(rings)
 }
 

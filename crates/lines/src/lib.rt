@@ -1,9 +1,5 @@
-// The code of stitching over two lent slices of words, the open table and the link table: the five rules, and the drawing of a stroke. Every function
+// The code of stitching over two lent slices of words, the open table and the link table: the five rules, and the lines that a cell meets. Every function
 // is total, as the table machine is, which each contract cites: a word past a table's end reads as 0 and is not stored.
-use cells::BOTTOM;
-use cells::LEFT;
-use cells::Stroke;
-use cells::TOP;
 use tables::Slot;
 use tables::column_word;
 use tables::put;
@@ -18,8 +14,8 @@ ghost use mathlib.Core.Path.{_≡_};
 ghost use mathlib.Core.Bool.{cond};
 ghost use Prim.Native.Nat.{_+_, _-_};
 ghost use lib.Dec.{eqb};
-ghost use Rattle.machine.specs.Machine.{mark, wordOf, withNext, started, appended, prepended, joined, closed, entryOf, drawStroke};
-ghost use Rattle.lines.specs.Values.{tablesOf, edgesOf, strokeOf, isShared, sharedSlot, numberedWord, connected, drawnBetween};
+ghost use Rattle.machine.specs.Machine.{mark, wordOf, withNext, started, appended, prepended, joined, closed, entryOf};
+ghost use Rattle.lines.specs.Values.{tablesOf, edgesOf, connected};
 
 pub mod tables;
 
@@ -222,7 +218,7 @@ pub fn close(
 }
 
 // Link `k`, from the end of line `f` to the start of line `g`: a line that meets itself closes, and two lines are joined.
-fn connect(
+pub fn connect(
     lines: &mut [u32],
     links: &mut [u32],
     p: Progress,
@@ -249,94 +245,4 @@ pub fn entry_of(lines: &[u32], dx: u32, c: u32) -> Entry
         left: word(lines, dx as usize + 1),
         top: word(lines, c as usize),
     }
-}
-
-// Whether a side, by its number, is one that a finished cell shares, where a line may end or start: the left or the top.
-fn is_shared(side: u8) -> bool
-    ensures { λ r. ⌜ r ≡ isShared side ⌝ }
-{
-    if side == LEFT {
-        return true;
-    }
-    side == TOP
-}
-
-// The slot of the line at a shared side.
-fn shared_slot(entry: Entry, side: u8) -> u32
-    ensures { λ r. ⌜ r ≡ sharedSlot entry side ⌝ }
-{
-    if side == LEFT { entry.left } else { entry.top }
-}
-
-// The frontier word of a side: the vertical edge's for the left and the right, and the column's for the top and the bottom.
-fn side_word(dx: u32, c: u32, side: u8) -> usize
-    ensures { λ r. ⌜ r ≡ numberedWord dx c side ⌝ }
-{
-    if side < TOP {
-        dx as usize + 1
-    } else {
-        c as usize
-    }
-}
-
-// Link `k`, from the point of index `s` on one side of a cell to that of index `e` on another, by the numbers of the sides: by which of them finished
-// cells share, and by the lines there, one of the five rules. From a side to itself nothing is drawn.
-fn draw_between(
-    lines: &mut [u32],
-    links: &mut [u32],
-    p: Progress,
-    entry: Entry,
-    dx: u32,
-    c: u32,
-    from: u8,
-    to: u8,
-    k: u32,
-    s: u32,
-    e: u32,
-) -> Progress
-    ensures { λ r. ⌜ tablesOf (now (lines .exit)) (now (links .exit)) r
-        ≡ drawnBetween dx c entry (tablesOf (now (lines .entry)) (now (links .entry)) p) k s e from to ⌝ }
-{
-    if from == to {
-        return p;
-    }
-    if is_shared(from) {
-        let f = shared_slot(entry, from);
-        if is_shared(to) {
-            return connect(lines, links, p, dx, k, s, f, shared_slot(entry, to));
-        }
-        return append(lines, links, p, dx, k, s, f, e, side_word(dx, c, to));
-    }
-    let ws = side_word(dx, c, from);
-    if is_shared(to) {
-        return prepend(lines, links, p, dx, k, s, shared_slot(entry, to), ws);
-    }
-    start(lines, links, p, dx, k, s, e, ws, side_word(dx, c, to))
-}
-
-// A stroke of a cell of column `c`, drawn as link `k` from the point of index `s` to that of index `e`. Numbers that are no stroke's change nothing.
-pub fn draw_stroke(
-    lines: &mut [u32],
-    links: &mut [u32],
-    p: Progress,
-    entry: Entry,
-    dx: u32,
-    c: u32,
-    stroke: Stroke,
-    k: u32,
-    s: u32,
-    e: u32,
-) -> Progress
-    ensures { λ r. ⌜ tablesOf (now (lines .exit)) (now (links .exit)) r
-        ≡ drawStroke dx c (edgesOf entry) (tablesOf (now (lines .entry)) (now (links .entry)) p) (strokeOf stroke) k s e ⌝ }
-{
-    let from = stroke.from;
-    let to = stroke.to;
-    if BOTTOM < from {
-        return p;
-    }
-    if BOTTOM < to {
-        return p;
-    }
-    draw_between(lines, links, p, entry, dx, c, from, to, k, s, e)
 }

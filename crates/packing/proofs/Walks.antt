@@ -1,5 +1,5 @@
--- The three loops. A walk's invariant says that storing what the links not yet walked give leaves what storing the whole walk leaves, and a turn stores what
--- one link gives. Clearing has cleared the words so far. Assumes nothing.
+-- The two loops. The walk's invariant has two parts, of the points and of the records: storing what the links not yet walked give leaves what storing the
+-- whole walk leaves, and a turn stores what one link gives. Clearing has cleared the words so far. Assumes nothing.
 use mathlib.Core.Path.{_≡_, refl, sym, ap, _∙_}
 use mathlib.Core.List.{List, _++_}
 use Prim.Native.Nat.{ℕ, zero, suc, _+_, _-_, _*_, _≤_, _<_}
@@ -131,26 +131,33 @@ module _ {links start : List ℕ} {head count : ℕ} {directory : List ℕ} {fir
 
 -- ---- clearing
 
--- the first i words are cleared
-pub record ClearedTo (start : List ℕ) (words : ℕ) (table : List ℕ) (i : ℕ) : Type 0 where
-  pub within : i ≤ words
+-- clearing up to end is clearing as many words as asked, and the first i words are cleared
+pub record ClearedTo (start : List ℕ) (words end : ℕ) (table : List ℕ) (i : ℕ) : Type 0 where
+  pub room : end ≤ length start
+  pub enough : cleared start end ≡ cleared start words
+  pub within : i ≤ end
   pub so-far : table ≡ cleared start i
 
-pub cleared-begin : (start : List ℕ) (words : ℕ) → ClearedTo start words start 0
-cleared-begin start words = record { within = omega arith; so-far = sym (cleared-none start) }
-
-module _ {start : List ℕ} {words : ℕ} {table : List ℕ} {i : ℕ} (s : ClearedTo start words table i) where
-  pub cleared-room : length table ≡ length start
-  cleared-room = ap length (s .so-far) ∙ clearing-keeps-the-length start i
-
-  pub cleared-next : i + 1 ≤ words → ClearedTo start words (set table i 0) (i + 1)
-  cleared-next h = record { within = h; so-far = rw (s .so-far) (one-word-more start i) }
-
+module _ {start : List ℕ} {words end : ℕ} where
   -- as many words as asked
-  pub cleared-asked : words < i + 1 → table ≡ cleared start words
-  cleared-asked h = let all : i ≡ words = omega arith in s .so-far ∙ rw all
+  pub cleared-asked : words < length start → end ≡ words → ClearedTo start words end start 0
+  cleared-asked h e = record { room = omega arith; enough = rw e; within = omega arith; so-far = sym (cleared-none start) }
 
   -- all words
-  pub cleared-all : length table ≤ i → table ≡ cleared start words
-  cleared-all h =
-      s .so-far ∙ a-table-is-cleared-whole start i (omega (arith, cleared-room)) ∙ sym (a-table-is-cleared-whole start words (omega (arith, cleared-room)))
+  pub cleared-all : length start ≤ words → end ≡ length start → ClearedTo start words end start 0
+  cleared-all h e = record {
+    room = omega arith;
+    enough = a-table-is-cleared-whole start end (omega arith) ∙ sym (a-table-is-cleared-whole start words h);
+    within = omega arith;
+    so-far = sym (cleared-none start);
+  }
+
+  module _ {table : List ℕ} {i : ℕ} (s : ClearedTo start words end table i) where
+    pub cleared-room : length table ≡ length start
+    cleared-room = ap length (s .so-far) ∙ clearing-keeps-the-length start i
+
+    pub cleared-next : i < end → ClearedTo start words end (set table i 0) (i + 1)
+    cleared-next h = record { room = s .room; enough = s .enough; within = omega arith; so-far = rw (s .so-far) (one-word-more start i) }
+
+    pub cleared-end : end ≤ i → table ≡ cleared start words
+    cleared-end h = let all : i ≡ end = omega (arith, s .within) in s .so-far ∙ rw all (s .enough)

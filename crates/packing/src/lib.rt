@@ -1,5 +1,5 @@
-// What a build writes once all rings are closed: the points and the directory, each by one walk along the links, and the zeros that the work tables are
-// left with. Every function is total: a word past a table's end reads as 0 and is not stored.
+// What a build writes once all rings are closed: the points and the directory, by one walk along the links, and the zeros that the work tables are left
+// with. Every function is total: a word past a table's end reads as 0 and is not stored.
 ghost use mathlib.Core.Path.{_≡_};
 ghost use Prim.Native.Nat.{_%_, _^_};
 ghost use lib.ListN.{getD, set};
@@ -73,31 +73,6 @@ fn put_point(links: &[u32], dx: u32, k: u32, points: &mut [u16], at: usize)
     }
 }
 
-// Walks `count` links from link `head` on, and stores the points of the rings one after the other from word 0 on, two words a point. At a ring's end its
-// first point stands again. Past the end of `points` nothing is stored.
-pub fn write_points(links: &[u32], dx: u32, head: u32, count: u32, points: &mut [u16])
-    ensures { λ _. ⌜ now (points .exit) ≡ sets (now (points .entry)) 0 (walkPoints dx (now (links .entry)) head head count) ⌝ }
-{
-    let mut first = head;
-    let mut k = head;
-    let mut at: usize = 0;
-    let mut left = count;
-    while 0 < left {
-        left -= 1;
-        put_point(links, dx, k, points, at);
-        at += 2;
-        let next = next_link(links, k);
-        if next < MARK {
-            k = next;
-        } else {
-            put_point(links, dx, first, points, at);
-            at += 2;
-            k = next - MARK;
-            first = k;
-        }
-    }
-}
-
 // Stores the record of a ring as four words, from word `at` on: the number of its first point, how many points it has, its class, and no owner.
 fn put_record(directory: &mut [u32], at: usize, first: u64, count: u64)
     ensures { λ _. ⌜ now (directory .exit) ≡ sets (now (directory .entry)) at (recordWords first count) ⌝ }
@@ -110,29 +85,45 @@ fn put_record(directory: &mut [u32], at: usize, first: u64, count: u64)
     }
 }
 
-// Walks `count` links from link `head` on, and stores a record for each ring, one after the other from word 0 on, four words a record. A ring has one point
-// for each of its links, and its first point again. Past the end of `directory` nothing is stored.
-pub fn write_directory(links: &[u32], head: u32, count: u32, directory: &mut [u32])
+// Walks `count` links from link `head` on. The points of the rings are stored one after the other from word 0 on, two words a point: a point for each link,
+// and at a ring's end its first point again. There the ring's record is stored too, one record after the other from word 0 on, four words a record. Past the
+// end of a table nothing is stored.
+pub fn write_rings(
+    links: &[u32],
+    dx: u32,
+    head: u32,
+    count: u32,
+    points: &mut [u16],
+    directory: &mut [u32],
+)
+    ensures { λ _. ⌜ now (points .exit) ≡ sets (now (points .entry)) 0 (walkPoints dx (now (links .entry)) head head count) ⌝ }
     ensures { λ _. ⌜ now (directory .exit) ≡ sets (now (directory .entry)) 0 (walkRecords (now (links .entry)) 0 0 head count) ⌝ }
 {
-    let mut first: u64 = 0;
-    let mut size: u64 = 0;
+    let mut first = head;
     let mut k = head;
     let mut at: usize = 0;
+    let mut first_point: u64 = 0;
+    let mut size: u64 = 0;
+    let mut record_at: usize = 0;
     let mut left = count;
     while 0 < left {
         left -= 1;
+        put_point(links, dx, k, points, at);
+        at += 2;
         let next = next_link(links, k);
         if next < MARK {
             size += 1;
             k = next;
         } else {
-            let points = size + 2;
-            put_record(directory, at, first, points);
-            at += RECORD_STRIDE;
-            first += points;
+            put_point(links, dx, first, points, at);
+            at += 2;
+            let ring_points = size + 2;
+            put_record(directory, record_at, first_point, ring_points);
+            record_at += RECORD_STRIDE;
+            first_point += ring_points;
             size = 0;
             k = next - MARK;
+            first = k;
         }
     }
 }
@@ -141,13 +132,14 @@ pub fn write_directory(links: &[u32], head: u32, count: u32, directory: &mut [u3
 pub fn clear(table: &mut [u32], words: usize)
     ensures { λ _. ⌜ now (table .exit) ≡ cleared (now (table .entry)) words ⌝ }
 {
+    let end = if words < table.len() {
+        words
+    } else {
+        table.len()
+    };
     let mut i = 0;
-    while i < table.len() {
-        let next = i + 1;
-        if words < next {
-            return;
-        }
+    while i < end {
         table[i] = 0;
-        i = next;
+        i += 1;
     }
 }

@@ -3,7 +3,7 @@
 use mathlib.Core.Path.{_≡_, refl, sym, _∙_}
 use mathlib.Core.Bool.{Bool, true, false, not, cond, _||_, true≢false}
 use mathlib.Core.List.{List}
-use Prim.Native.Nat.{ℕ, _*_, _≤_, _<_}
+use Prim.Native.Nat.{ℕ, suc, _*_, _≤_, _<_}
 use native.Mathlib.Omega.{arith}
 use lib.Dec.{eqb, ltb}
 use lib.Ieee.{Float}
@@ -11,17 +11,15 @@ use borrow.Author.Tests.{ltb-false, eqb-true, not-false, lt-ltb, le-ltb, eq-eqb,
 use Rattle.error.specs.declared.Refusal.the-variants.{BadSide, BadDimension}
 use Rattle.scope.specs.Limits.{sideLimit}
 use Rattle.scope.specs.Terrain.{atLeast, terrain}
+use Rattle.words.proofs.Laws.{neither}
 use Rattle.scan.specs.Grid.{badSide, badCount, gridFit, Sized}
+use Rattle.scan.specs.Rows.{wordFrom}
 use Rattle.scan.specs.Scanned.{scanned}
 use Rattle.scan.specs.Report.{firstReport}
 use Rattle.scan.specs.declared.Counts.{Counts}
 use Rattle.scan.specs.declared.GridFit.{GridFit}
 use Rattle.scan.specs.declared.GridFit.the-variants.{Fits, Refused}
 use Rattle.scan.specs.declared.FirstReport.{FirstReport}
-
-neither : (a b : Bool) → a || b ≡ false → (a ≡ false) × (b ≡ false)
-neither true b h = absurd (true≢false h)
-neither false b h = (refl, h)
 
 untested : (a b : Bool) → cond a (Refused BadSide) (cond b (Refused BadDimension) Fits) ≡ Fits → (a ≡ false) × (b ≡ false)
 untested true b h = absurd (let z : _≡_ {A = ℕ} 0 1 = cc in omega arith)
@@ -94,8 +92,8 @@ pub one-grid-fit : (count dx dy : ℕ) (p q : GridFit) → p ≡ gridFit count d
 one-grid-fit count dx dy p q hp hq = one-result hp hq
 
 module _ (values : List Float) (threshold : Float) (dx dy : ℕ) where
-  pub one-sample : (c r : ℕ) (p q : Bool) → p ≡ terrain (atLeast threshold) values dx dy c r → q ≡ terrain (atLeast threshold) values dx dy c r → p ≡ q
-  one-sample c r p q hp hq = one-result hp hq
+  pub one-lower-word : (r c p q : ℕ) → p ≡ wordFrom (terrain (atLeast threshold) values dx dy) (suc r) c → q ≡ wordFrom (terrain (atLeast threshold) values dx dy) (suc r) c → p ≡ q
+  one-lower-word r c p q hp hq = one-result hp hq
 
   pub one-scan : (p q : Counts) → p ≡ scanned (terrain (atLeast threshold) values dx dy) dx dy → q ≡ scanned (terrain (atLeast threshold) values dx dy) dx dy → p ≡ q
   one-scan p q hp hq = one-result hp hq

@@ -1,22 +1,26 @@
 -- The counts from cell to cell and from row to row: each cell changes them by the case table, and they stay small.
 -- The steps are the laws of the drawing; the bound on the segments is two for each cell. Assumes nothing.
 use mathlib.Core.Path.{_≡_, refl, sym, _∙_, ap}
-use mathlib.Core.Bool.{Bool, false}
-use Prim.Native.Nat.{ℕ, zero, suc, _+_, _*_, _^_, _≤_, _<_}
-use native.Mathlib.Nat.{suc-mul, mul-le-mul}
-use native.Mathlib.Numerals.{add-one}
+use mathlib.Core.Bool.{false}
+use mathlib.Core.List.{List, append-nil}
+use Prim.Native.Nat.{ℕ, zero, suc, _+_, _-_, _*_, _^_, _≤_, _<_, max}
+use native.Mathlib.Nat.{add-zero, add-suc, suc-mul, mul-le-mul, le-max-right, max-eq-left}
 use native.Mathlib.Omega.{arith}
 use lib.ListN.{length}
 use Rattle.scope.specs.Terrain.{Sheet}
 use Rattle.scope.specs.Limits.{sideLimit}
-use Rattle.scope.specs.Cells.{numberOf, cellNumber, opened, closed}
+use Rattle.scope.specs.Cells.{Segment, cellNumber, cellSegments, opened, closed}
 use Rattle.scope.specs.Stitching.{nothing, stitchAll}
-use Rattle.scope.specs.Drawing.{along, down, upTo, segmentsAfter, drawingAfter, openAfter, segmentsOf, segmentCount, higher, peak}
+use Rattle.scope.specs.Drawing.{withCell, along, down, upTo, segmentsAfter, drawingAfter, openAfter, segmentsOf, segmentCount, higher, peak}
+use Rattle.words.specs.Panes.{active, Shows, numberIn}
+use Rattle.words.specs.declared.Pane.{Pane}
+use Rattle.words.proofs.Laws.{nothing-drawn, number-shown}
 use Rattle.cells.proofs.Laws.{a-cell-draws-at-most-two}
 use Rattle.laws.proofs.Edges.{Outside}
 use Rattle.laws.proofs.Laws.{open-lines-are-half-the-pairs, shared-pairs-are-few, open-lines-change-by-the-table, segments-change-by-the-table, no-line-is-left}
 use Rattle.scan.specs.Scanned.{Drawn, countsAfter, scanned}
 use Rattle.scan.specs.declared.Counts.{Counts}
+use Rattle.scan.proofs.Rows.{nothing-active-outside, an-active-cell-is-inside, Unseen, Next, unseen-end}
 
 -- before the first cell
 pub counts-begin : (A : Sheet) (dx : ℕ) → record { segments = 0; «open_lines» = 0; peak = 0 } ≡ countsAfter A dx 0 0
@@ -28,12 +32,40 @@ pub row-done : (A : Sheet) (dx r : ℕ) → countsAfter A dx r (suc dx) ≡ coun
 unfolding countsAfter segmentsAfter openAfter drawingAfter upTo along down
 row-done A dx r = refl
 
--- the scan of a row so far: the counts, and the samples on the left of the next cell
-pub record Along (A : Sheet) (dx r c : ℕ) (counts : Counts) (upper lower : Bool) : Type 0 where
-  pub within : c ≤ suc dx
-  pub so-far : counts ≡ countsAfter A dx r c
-  pub left-upper : upper ≡ A c r
-  pub left-lower : lower ≡ A c (suc r)
+-- ---- cells that draw nothing
+
+module _ (A : Sheet) (dx : ℕ) where
+  no-segments : (r c : ℕ) → active A r c ≡ false → segmentsAfter A dx r (suc c) ≡ segmentsAfter A dx r c
+  unfolding segmentsAfter upTo along withCell cellSegments
+  no-segments r c h = rw (nothing-drawn A r c h) (append-nil (segmentsAfter A dx r c))
+
+  pub same-lines : (r c : ℕ) → active A r c ≡ false → length (openAfter A dx r (suc c)) ≡ length (openAfter A dx r c)
+  unfolding openAfter drawingAfter
+  same-lines r c h = ap (λ (σs : List Segment). length (stitchAll nothing σs .lines)) (no-segments r c h)
+
+  -- the open lines are never more than their peak so far
+  peak-after : (r c : ℕ) → length (openAfter A dx r (suc c)) ≤ upTo (higher A dx) 0 dx r (suc c)
+  peak-after r c = unfold upTo along higher in le-max-right (upTo (higher A dx) 0 dx r c) (length (openAfter A dx r (suc c)))
+
+  peak-holds : (r c : ℕ) → length (openAfter A dx r c) ≤ upTo (higher A dx) 0 dx r c
+  peak-holds r (suc c) = peak-after r c
+  peak-holds zero zero = unfold openAfter drawingAfter segmentsAfter upTo along down stitchAll nothing in omega arith
+  peak-holds (suc r) zero = unfold openAfter drawingAfter segmentsAfter upTo along down in peak-after r dx
+
+  same-peak : (r c : ℕ) → active A r c ≡ false → upTo (higher A dx) 0 dx r (suc c) ≡ upTo (higher A dx) 0 dx r c
+  same-peak r c h =
+      unfold upTo along higher in
+      max-eq-left (omega (arith, peak-holds r c, same-lines r c h))
+
+  same-counts : (r c : ℕ) → active A r c ≡ false → countsAfter A dx r (suc c) ≡ countsAfter A dx r c
+  unfolding countsAfter
+  same-counts r c h = rw (no-segments r c h, same-lines r c h, same-peak r c h) refl
+
+  -- along t such cells
+  pub counts-stay : (r c t : ℕ) → ((j : ℕ) → j < t → active A r (c + j) ≡ false) → countsAfter A dx r (c + t) ≡ countsAfter A dx r c
+  counts-stay r c zero h = ap (countsAfter A dx r) (add-zero c)
+  counts-stay r c (suc t) h =
+      rw (add-suc c t) (same-counts r (c + t) (h t (omega arith)) ∙ counts-stay r c t (λ j l. h j (omega arith)))
 
 module _ (A : Sheet) {dx dy : ℕ} (out : Outside A dx dy) where
   -- ---- the counts stay small
@@ -56,8 +88,18 @@ module _ (A : Sheet) {dx dy : ℕ} (out : Outside A dx dy) where
   segments-are-few limit r c hx hr hc =
       omega (arith, few-in-row r c, few-in-rows r, mul-le-mul {n₁ = r} {m₁ = suc dx} {n₂ = limit} {m₂ = suc limit} hr (omega arith))
 
+  -- there is room for the counts of a word of cells more
+  pub counts-fit : {before : Counts} (r c : ℕ) → before ≡ countsAfter A dx r c → dx ≤ sideLimit → r ≤ sideLimit → c ≤ dx →
+      (before .segments + 128 < 2 ^ 32) × (before .«open_lines» + 64 < 2 ^ 32)
+  unfolding sideLimit countsAfter
+  counts-fit r c e hx hr hc =
+      rw e (
+        omega (arith, segments-are-few sideLimit r c hx hr (omega arith)),
+        omega (arith, open-lines-are-half-the-pairs A out r c (omega arith), shared-pairs-are-few A out r c (omega arith)),
+      )
+
   -- what drawing a cell asks of the counts
-  pub cell-fits : (r c : ℕ) → dx ≤ sideLimit → r ≤ sideLimit → c ≤ dx →
+  cell-fits : (r c : ℕ) → dx ≤ sideLimit → r ≤ sideLimit → c ≤ dx →
       (length (segmentsAfter A dx r c) + 2 < 2 ^ 32)
       × (length (openAfter A dx r c) + 2 < 2 ^ 32)
       × (closed (cellNumber A c r) ≤ length (openAfter A dx r c) + opened (cellNumber A c r))
@@ -75,7 +117,7 @@ module _ (A : Sheet) {dx dy : ℕ} (out : Outside A dx dy) where
   unfolding countsAfter
   next-open r c after h d = omega (arith, d .fewer-or-more, open-lines-change-by-the-table A out r c h)
 
-  pub next-counts : (r c : ℕ) (after : Counts) → c ≤ dx → Drawn (countsAfter A dx r c) (cellNumber A c r) after →
+  next-counts : (r c : ℕ) (after : Counts) → c ≤ dx → Drawn (countsAfter A dx r c) (cellNumber A c r) after →
       after ≡ countsAfter A dx r (suc c)
   unfolding countsAfter
   next-counts r c after h d =
@@ -86,48 +128,39 @@ module _ (A : Sheet) {dx dy : ℕ} (out : Outside A dx dy) where
       in
       rw (← segments, ← lines, ← highest) refl
 
-  -- ---- along a row
+  -- ---- the active cells of a word
 
-  pub along-begin : (r : ℕ) (counts : Counts) → counts ≡ countsAfter A dx r 0 → Along A dx r 0 counts false false
-  along-begin r counts e = record {
-    within = omega arith;
-    so-far = e;
-    left-upper = sym (out .no-column-before r);
-    left-lower = sym (out .no-column-before (suc r));
-  }
+  module _ {r c at rest t : ℕ} {counts : Counts} {pane : Pane} (shows : Shows A r c pane) (next : Next A r c at rest t)
+      (so-far : counts ≡ countsAfter A dx r (c + at)) where
+    inside : c + (at + t) ≤ dx
+    inside = an-active-cell-is-inside A out r (c + (at + t)) (next .active-there)
 
-  pub along-end : {r c : ℕ} {counts : Counts} {upper lower : Bool} → Along A dx r c counts upper lower → dx < c →
-      counts ≡ countsAfter A dx r (suc dx)
-  along-end {r} {c} s h = s .so-far ∙ ap (countsAfter A dx r) (omega (arith, s .within))
+    at-the-cell : counts ≡ countsAfter A dx r (c + (at + t))
+    at-the-cell = so-far ∙ sym (counts-stay A dx r (c + at) t (next .none-between)) ∙ ap (countsAfter A dx r) (omega arith)
 
-  -- a cell that is drawn next, by the two samples on its right
-  module _ {r c : ℕ} {counts : Counts} {upper lower next-upper next-lower : Bool} {number : ℕ} (s : Along A dx r c counts upper lower)
-      (h : c ≤ dx) (eu : next-upper ≡ A (c + 1) r) (el : next-lower ≡ A (c + 1) (r + 1))
-      (en : number ≡ numberOf lower next-lower next-upper upper) where
-    upper-is : next-upper ≡ A (suc c) r
-    upper-is = rw add-one at eu
+    number-is : {number : ℕ} → number ≡ numberIn pane (at + t) → number ≡ cellNumber A (c + (at + t)) r
+    number-is e = e ∙ number-shown A r c shows (next .in-word)
 
-    lower-is : next-lower ≡ A (suc c) (suc r)
-    lower-is = rw (add-one c, add-one r) at el
-
-    number-is : number ≡ cellNumber A c r
-    unfolding cellNumber
-    number-is = rw (← s .left-upper, ← s .left-lower, ← upper-is, ← lower-is) en
-
-    pub along-fits : dx ≤ sideLimit → r ≤ sideLimit →
+    pub active-fits : {number : ℕ} → number ≡ numberIn pane (at + t) → dx ≤ sideLimit → r ≤ sideLimit →
         (counts .segments + 2 < 2 ^ 32) × (counts .«open_lines» + 2 < 2 ^ 32) × (closed number ≤ counts .«open_lines» + opened number)
     unfolding countsAfter
-    along-fits hx hr = rw (s .so-far, number-is) (cell-fits r c hx hr h)
+    active-fits e hx hr = rw (at-the-cell, number-is e) (cell-fits r (c + (at + t)) hx hr inside)
 
-    pub along-next : {after : Counts} → Drawn counts number after → Along A dx r (c + 1) after next-upper next-lower
-    along-next {after} d =
-        rw (add-one c)
-        record {
-          within = omega arith;
-          so-far = next-counts r c after h (rw (← s .so-far, ← number-is) d);
-          left-upper = upper-is;
-          left-lower = lower-is;
-        }
+    pub active-drawn : {number : ℕ} {after : Counts} → number ≡ numberIn pane (at + t) → Drawn counts number after →
+        after ≡ countsAfter A dx r (c + (at + t + 1))
+    active-drawn {number} {after} e d =
+        next-counts r (c + (at + t)) after inside (rw (← at-the-cell, ← number-is e) d) ∙ ap (countsAfter A dx r) (omega arith)
+
+  pub word-counted : {r c at : ℕ} {counts : Counts} → Unseen A r c at 0 → counts ≡ countsAfter A dx r (c + at) → counts ≡ countsAfter A dx r (c + 64)
+  word-counted {r} {c} {at} u so-far =
+      so-far ∙ sym (counts-stay A dx r (c + at) (64 - at) (unseen-end A r c u)) ∙ ap (countsAfter A dx r) (omega (arith, u .seen))
+
+  -- ---- along a row
+
+  pub row-counted : (r c : ℕ) {counts : Counts} → counts ≡ countsAfter A dx r c → dx < c → counts ≡ countsAfter A dx r (suc dx)
+  row-counted r c so-far far =
+      so-far ∙ ap (countsAfter A dx r) (omega arith)
+      ∙ counts-stay A dx r (suc dx) (c - suc dx) (λ j l. nothing-active-outside A out r (suc dx + j) (omega arith))
 
   -- ---- the whole grid
 

@@ -1,4 +1,5 @@
 -- What the scan answers, by document 01's definitions.
 pub mod Grid
+pub mod Rows
 pub mod Scanned
 pub mod Report

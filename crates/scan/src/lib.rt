@@ -1,16 +1,26 @@
 // The scan of a grid: whether the grid fits, the samples of its sheet, and the first report, which counts segments and the peak of open lines
 // without work tables.
 use cells::Level;
-use cells::above;
-use cells::cell_number;
 use cells::change_of;
 use error::Refusal;
+use words::Pane;
+use words::SAMPLES;
+use words::bit_at;
+use words::changes_in;
+use words::number_in;
+use words::pane_of;
+use words::tally_of;
+use words::whole_word;
+use words::word_of;
 ghost use mathlib.Core.Path.{_≡_};
-ghost use Prim.Native.Nat.{suc, _+_, _^_, _≤_, _<_};
+ghost use Prim.Native.Nat.{suc, _+_, _*_, _^_, _≤_, _<_};
 ghost use lib.ListN.{length};
+ghost use Rattle.scope.specs.Limits.{sideLimit};
 ghost use Rattle.scope.specs.Terrain.{atLeast, terrain};
 ghost use Rattle.scope.specs.Cells.{opened, closed};
+ghost use Rattle.words.specs.Panes.{Shows, changesIn};
 ghost use Rattle.scan.specs.Grid.{Sized, gridFit};
+ghost use Rattle.scan.specs.Rows.{wordFrom, Kept, tileOf, Noted, Marked};
 ghost use Rattle.scan.specs.Scanned.{Drawn, countsAfter, scanned};
 ghost use Rattle.scan.specs.Report.{firstReport};
 
@@ -47,26 +57,39 @@ pub fn grid_fit(count: usize, dx: usize, dy: usize) -> GridFit
     GridFit::Fits
 }
 
-// Whether the sample at column `c` and row `r` of the sheet is above. The sheet is counted from one column and one row outside the grid, and
-// nothing outside the grid is above.
-pub fn sample(values: &[f64], level: Level, dx: usize, dy: usize, c: usize, r: usize) -> bool
+// The samples of row `r` + 1 of the sheet on the right of the sixty-four cells from cell `c` on. The sheet is counted from one column and one row outside
+// the grid, and nothing outside the grid is above.
+pub fn lower_word(values: &[f64], level: Level, dx: usize, dy: usize, r: usize, c: usize) -> u64
     requires { ⌜ Sized (length (now values)) dx dy ⌝ }
-    ensures { λ b. ⌜ b ≡ terrain (atLeast (level .threshold)) (now (values .entry)) dx dy c r ⌝ }
+    requires { ⌜ c ≤ dx ⌝ }
+    ensures { λ w. ⌜ w ≡ wordFrom (terrain (atLeast (level .threshold)) (now (values .entry)) dx dy) (suc r) c ⌝ }
 {
-    if c == 0 {
-        return false;
+    if dy <= r {
+        return 0;
     }
-    if dx < c {
-        return false;
+    let i = r * dx + c;
+    let inside = dx - c;
+    if inside < SAMPLES {
+        return word_of(values, level, i, inside);
     }
-    if r == 0 {
-        return false;
-    }
-    if dy < r {
-        return false;
-    }
-    let i = (r - 1) * dx + (c - 1);
-    above(level, values[i])
+    whole_word(values, level, i)
+}
+
+// The most words of a row of samples that are kept. A word begins every sixty-four cells, and a row has a cell more than columns.
+pub const ROW_WORDS: usize = 65;
+
+// How many tiles have a mark.
+pub const TILES: usize = 4096;
+
+// How many rows of cells a tile is high. A tile is one word wide.
+const TILE_ROWS: usize = 66;
+
+// The tile of word `w` of row `r`.
+pub fn tile_of(r: usize, w: usize) -> usize
+    requires { ⌜ (r ≤ sideLimit) × (w < 65) ⌝ }
+    ensures { λ t. ⌜ t ≡ tileOf r w ⌝ }
+{
+    r / TILE_ROWS * ROW_WORDS + w
 }
 
 // What the scan has counted after some cells: the segments drawn, the lines open now, and the most that were open after any cell.
@@ -99,33 +122,132 @@ fn with_cell(before: Counts, number: usize) -> Counts
     }
 }
 
-// The counts after the cells of row `r`, from those before it. Each cell reads the two samples on its right; those on its left are the last cell's.
-fn with_row(values: &[f64], level: Level, dx: usize, dy: usize, r: usize, before: Counts) -> Counts
+// The counts after sixty-four cells of row `r` from cell `c` on, from those before them. Only the active cells are looked at, by the bits of `changes`.
+// The values, the threshold and the sides say whose cells these are.
+fn with_changes(
+    values: &[f64],
+    threshold: f64,
+    dx: usize,
+    dy: usize,
+    r: usize,
+    c: usize,
+    pane: Pane,
+    changes: u64,
+    before: Counts,
+) -> Counts
     requires { ⌜ Sized (length (now values)) dx dy ⌝ }
     requires { ⌜ r ≤ dy ⌝ }
-    requires { ⌜ before ≡ countsAfter (terrain (atLeast (level .threshold)) (now values) dx dy) dx r 0 ⌝ }
-    ensures { λ s. ⌜ s ≡ countsAfter (terrain (atLeast (level .threshold)) (now (values .entry)) dx dy) dx r (suc dx) ⌝ }
+    requires { ⌜ Shows (terrain (atLeast threshold) (now values) dx dy) r c pane ⌝ }
+    requires { ⌜ changes ≡ changesIn pane ⌝ }
+    requires { ⌜ before ≡ countsAfter (terrain (atLeast threshold) (now values) dx dy) dx r c ⌝ }
+    ensures { λ s. ⌜ s ≡ countsAfter (terrain (atLeast threshold) (now (values .entry)) dx dy) dx r (c + 64) ⌝ }
 {
     let mut counts = before;
-    let mut upper = false;
-    let mut lower = false;
-    let mut c = 0;
-    while c <= dx {
-        let next_upper = sample(values, level, dx, dy, c + 1, r);
-        let next_lower = sample(values, level, dx, dy, c + 1, r + 1);
-        counts = with_cell(counts, cell_number(lower, next_lower, next_upper, upper));
-        upper = next_upper;
-        lower = next_lower;
-        c += 1;
+    let mut rest = changes;
+    let mut at: u32 = 0;
+    while rest != 0 {
+        let skipped = u64::trailing_zeros(rest);
+        let j = at + skipped;
+        counts = with_cell(counts, number_in(pane, j));
+        rest = (rest >> skipped) / 2;
+        at = j + 1;
     }
     counts
 }
 
-// The counts after all cells of a grid that fits, row after row.
-pub fn scan(values: &[f64], level: Level, dx: usize, dy: usize) -> Counts
+// The counts after the sixty-four cells of word `w` of row `r`, from those before them. Where a cell is active, the word's tile is marked. Where the peak
+// cannot rise among these cells their tally is enough, and else they are counted cell by cell.
+fn with_pane(
+    values: &[f64],
+    level: Level,
+    dx: usize,
+    dy: usize,
+    r: usize,
+    w: usize,
+    pane: Pane,
+    marks: &mut [u8; TILES],
+    before: Counts,
+) -> Counts
     requires { ⌜ Sized (length (now values)) dx dy ⌝ }
-    ensures { λ s. ⌜ s ≡ scanned (terrain (atLeast (level .threshold)) (now (values .entry)) dx dy) dx dy ⌝ }
+    requires { ⌜ (r ≤ dy) × (w < 65) × (64 * w ≤ dx) ⌝ }
+    requires { ⌜ length (now marks) ≡ 4096 ⌝ }
+    requires { ⌜ Shows (terrain (atLeast (level .threshold)) (now values) dx dy) r (64 * w) pane ⌝ }
+    requires { ⌜ before ≡ countsAfter (terrain (atLeast (level .threshold)) (now values) dx dy) dx r (64 * w) ⌝ }
+    ensures { λ s. ⌜ s ≡ countsAfter (terrain (atLeast (level .threshold)) (now (values .entry)) dx dy) dx r (64 * w + 64) ⌝ }
+    ensures { λ _. ⌜ Noted (terrain (atLeast (level .threshold)) (now (values .entry)) dx dy) r w (now (marks .entry)) (now (marks .exit)) ⌝ }
 {
+    let changes = changes_in(pane);
+    if changes == 0 {
+        return before;
+    }
+    marks[tile_of(r, w)] = 1;
+    let tally = tally_of(pane, changes);
+    let most = before.open_lines + tally.opened;
+    if most <= before.peak {
+        return Counts {
+            segments: before.segments + tally.segments,
+            open_lines: most - tally.closed,
+            peak: before.peak,
+        };
+    }
+    with_changes(
+        values,
+        level.threshold,
+        dx,
+        dy,
+        r,
+        SAMPLES * w,
+        pane,
+        changes,
+        before,
+    )
+}
+
+// The counts after the cells of row `r`, from those before it. `row` holds the samples above these cells, and then those below.
+fn with_row(
+    values: &[f64],
+    level: Level,
+    dx: usize,
+    dy: usize,
+    r: usize,
+    row: &mut [u64; ROW_WORDS],
+    marks: &mut [u8; TILES],
+    before: Counts,
+) -> Counts
+    requires { ⌜ Sized (length (now values)) dx dy ⌝ }
+    requires { ⌜ r ≤ dy ⌝ }
+    requires { ⌜ Kept (terrain (atLeast (level .threshold)) (now values) dx dy) r (now row) ⌝ }
+    requires { ⌜ Marked (terrain (atLeast (level .threshold)) (now values) dx dy) r (now marks) ⌝ }
+    requires { ⌜ before ≡ countsAfter (terrain (atLeast (level .threshold)) (now values) dx dy) dx r 0 ⌝ }
+    ensures { λ s. ⌜ s ≡ countsAfter (terrain (atLeast (level .threshold)) (now (values .entry)) dx dy) dx r (suc dx) ⌝ }
+    ensures { λ _. ⌜ Kept (terrain (atLeast (level .threshold)) (now (values .entry)) dx dy) (suc r) (now (row .exit)) ⌝ }
+    ensures { λ _. ⌜ Marked (terrain (atLeast (level .threshold)) (now (values .entry)) dx dy) (suc r) (now (marks .exit)) ⌝ }
+{
+    let mut counts = before;
+    let mut upper = false;
+    let mut lower = false;
+    let mut w = 0;
+    while SAMPLES * w <= dx {
+        let upper_word = row[w];
+        let lower_word = lower_word(values, level, dx, dy, r, SAMPLES * w);
+        row[w] = lower_word;
+        let pane = pane_of(upper_word, lower_word, upper, lower);
+        counts = with_pane(values, level, dx, dy, r, w, pane, marks, counts);
+        upper = bit_at(upper_word, 63);
+        lower = bit_at(lower_word, 63);
+        w += 1;
+    }
+    counts
+}
+
+// The counts after all cells of a grid that fits, row after row. A tile that keeps the mark 0 has no active cell.
+pub fn scan(values: &[f64], level: Level, dx: usize, dy: usize, marks: &mut [u8; TILES]) -> Counts
+    requires { ⌜ Sized (length (now values)) dx dy ⌝ }
+    requires { ⌜ length (now marks) ≡ 4096 ⌝ }
+    ensures { λ s. ⌜ s ≡ scanned (terrain (atLeast (level .threshold)) (now (values .entry)) dx dy) dx dy ⌝ }
+    ensures { λ _. ⌜ Marked (terrain (atLeast (level .threshold)) (now (values .entry)) dx dy) (suc dy) (now (marks .exit)) ⌝ }
+{
+    let mut row = [0u64; ROW_WORDS];
     let mut counts = Counts {
         segments: 0,
         open_lines: 0,
@@ -133,7 +255,7 @@ pub fn scan(values: &[f64], level: Level, dx: usize, dy: usize) -> Counts
     };
     let mut r = 0;
     while r <= dy {
-        counts = with_row(values, level, dx, dy, r, counts);
+        counts = with_row(values, level, dx, dy, r, &mut row, marks, counts);
         r += 1;
     }
     counts
@@ -155,7 +277,8 @@ pub fn first_report(values: &[f64], level: Level, dx: usize, dy: usize) -> First
     match fit {
         GridFit::Refused(refusal) => FirstReport::Refused(refusal),
         GridFit::Fits => {
-            let counts = scan(values, level, dx, dy);
+            let mut marks = [0u8; TILES];
+            let counts = scan(values, level, dx, dy, &mut marks);
             FirstReport::Room {
                 segments: counts.segments,
                 peak: counts.peak,

@@ -15,9 +15,9 @@ index-is-bounded limit dx x y hd hx hy =
 pub index-fits : (dx x y : ℕ) → dx ≤ sideLimit → x ≤ 2 * sideLimit + 1 → y ≤ 2 * sideLimit + 1 → pointIndex dx (record { x = x; y = y }) < 2 ^ 32
 index-fits dx x y hd hx hy = unfold sideLimit in omega (arith, index-is-bounded sideLimit dx x y hd hx hy)
 
--- two links for each cell of r whole rows, and for each of one row more
-links-are-bounded : (limit dx r : ℕ) → dx ≤ limit → r ≤ limit → 2 * (r * suc dx) + 2 * suc dx ≤ 2 * (limit * suc limit) + 2 * suc limit
+-- two links for each cell of r whole rows, and for each of one row and a word more
+links-are-bounded : (limit dx r : ℕ) → dx ≤ limit → r ≤ limit → 2 * (r * suc dx) + 2 * (dx + 64) ≤ 2 * (limit * suc limit) + 2 * (limit + 64)
 links-are-bounded limit dx r hd hr = omega (arith, mul-le-mul {n₁ = r} {m₁ = suc dx} {n₂ = limit} {m₂ = suc limit} hr (omega arith))
 
-pub links-fit : (dx r : ℕ) → dx ≤ sideLimit → r ≤ sideLimit → 2 * (r * suc dx) + 2 * suc dx < 2 ^ 32
+pub links-fit : (dx r : ℕ) → dx ≤ sideLimit → r ≤ sideLimit → 2 * (r * suc dx) + 2 * (dx + 64) < 2 ^ 32
 links-fit dx r hd hr = unfold sideLimit in omega (arith, links-are-bounded sideLimit dx r hd hr)

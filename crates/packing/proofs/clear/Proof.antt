@@ -1,48 +1,41 @@
--- `packing::clear` meets its contract. The loop's invariant is `ClearedTo`: the words so far are cleared, and no more than asked.
--- The measure is what is left of the length. Assumes nothing.
+-- `packing::clear` meets its contract. The loop's invariant is `ClearedTo`: the words so far are cleared, and clearing up to the end is what is asked.
+-- The measure is what is left up to the end. Assumes nothing.
 use Prim.Native.Nat.{_-_}
+use mathlib.Core.Logic.{⊎-elim}
 use native.Mathlib.Omega.{arith}
-use lib.ListN.{length, length-set}
-use borrow.Author.Needs.{needs}
-use Rattle.packing.proofs.Walks.{ClearedTo, cleared-begin, cleared-room, cleared-next, cleared-asked, cleared-all}
+use Rattle.packing.proofs.Walks.{ClearedTo, cleared-asked, cleared-all, cleared-room, cleared-next, cleared-end}
 use Rattle.packing.proofs.clear.Statement.{statement}
 use Rattle.packing.proofs.clear.Tie as tie
 
 abbrev Inv-loop : tie.InvT-loop
-Inv-loop table₀ words i₀ table i = ClearedTo table₀ words table i
+Inv-loop table₀ words end i₀ table i = ClearedTo table₀ words end table i
 
 abbrev μ-loop : tie.MeasureT-loop
-μ-loop table₀ words i₀ table i = length table - i
+μ-loop table₀ words end i₀ table i = end - i
 
 loop-holds : tie.Need-loop-holds Inv-loop μ-loop
-loop-holds c = cleared-begin _ _
-
-add-next : tie.Need-add-next Inv-loop μ-loop
-add-next c = omega (arith, cleared-room (c .before .loop .inv))
-
-same-length : tie.Need-same-length Inv-loop μ-loop
-same-length c = cleared-room (c .before .before .loop .inv)
-
-returns : tie.Need-returns Inv-loop μ-loop
-returns c = cleared-asked (c .before .before .loop .inv) (omega arith)
+loop-holds c = ⊎-elim (λ w. cleared-asked (w .0 .taken) (w .1)) (λ w. cleared-all (w .0 .left) (w .1)) (c .if1 .came)
 
 mul-table : tie.Need-mul-table Inv-loop μ-loop
-mul-table c = omega (arith, cleared-room (c .before .before .loop .inv))
+mul-table c = omega (arith, cleared-room (c .before .loop .inv))
 
 slice-write-table : tie.Need-slice-write-table Inv-loop μ-loop
-slice-write-table c = search needs
+slice-write-table c = omega (arith, cleared-room (c .before .loop .inv))
+
+add-i : tie.Need-add-i Inv-loop μ-loop
+add-i c = omega (arith, cleared-room (c .before .loop .inv))
 
 loop-less : tie.Need-loop-less Inv-loop μ-loop
-loop-less c = simp length-set (omega arith)
+loop-less c = omega arith
 
 loop-again : tie.Need-loop-again Inv-loop μ-loop
-loop-again c = cleared-next (c .before .before .loop .inv) (omega arith)
+loop-again c = cleared-next (c .before .loop .inv) (omega arith)
 
-same-length-2 : tie.Need-same-length-2 Inv-loop μ-loop
-same-length-2 c = cleared-room (c .before .loop .inv)
+same-length : tie.Need-same-length Inv-loop μ-loop
+same-length c = cleared-room (c .before .loop .inv)
 
-returns-2 : tie.Need-returns-2 Inv-loop μ-loop
-returns-2 c = cleared-all (c .before .loop .inv) (c .loop-test .left)
+returns : tie.Need-returns Inv-loop μ-loop
+returns c = cleared-end (c .before .loop .inv) (omega arith)
 
 pub clear-spec : {M : Type 1} → statement M
 clear-spec =
@@ -51,12 +44,10 @@ clear-spec =
     Inv-loop
     μ-loop
     loop-holds
-    add-next
-    same-length
-    returns
     mul-table
     slice-write-table
+    add-i
     loop-less
     loop-again
-    same-length-2
-    returns-2)
+    same-length
+    returns)

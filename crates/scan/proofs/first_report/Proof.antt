@@ -1,6 +1,6 @@
 -- `scan::first_report` meets its contract. Each arm is given which answer `grid_fit` returned, which its contract says is the definition's;
 -- a grid that fits can be scanned. Assumes nothing.
-use mathlib.Core.Path.{sym, _∙_}
+use mathlib.Core.Path.{refl, sym, _∙_}
 use borrow.Author.Needs.{needs}
 use Rattle.scan.specs.Scanned.{scanned}
 use Rattle.scan.specs.Report.{roomOf, reportFor, firstReport}
@@ -18,7 +18,7 @@ enum-told : tie.Need-enum-told
 enum-told c = search needs
 
 scan-requires : tie.Need-scan-requires
-scan-requires c κs = a-grid-that-fits-is-sized _ _ _ (sym (c .before .before .grid-fit .ensures) ∙ c .enum-told .given .1)
+scan-requires c κs = (a-grid-that-fits-is-sized _ _ _ (sym (c .before .before .before .grid-fit .ensures) ∙ c .before .enum-told .given .1), refl)
 
 returns : tie.Need-returns
 unfolding firstReport reportFor
@@ -26,7 +26,7 @@ returns c = rw (sym (c .before .before .before .grid-fit .ensures) ∙ c .before
 
 returns-2 : tie.Need-returns-2
 unfolding firstReport reportFor roomOf scanned
-returns-2 c = rw (sym (c .before .before .before .grid-fit .ensures) ∙ c .before .enum-told .given .1, c .scan .ensures)
+returns-2 c = rw (sym (c .before .before .before .before .grid-fit .ensures) ∙ c .before .before .enum-told .given .1, c .scan .ensures .0)
 
 pub first-report-spec : {M : Type 1} → statement M
 first-report-spec =

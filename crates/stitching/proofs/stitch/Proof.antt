@@ -1,5 +1,5 @@
--- `stitching::stitch` meets its contract. The loop's invariant: the run is the table machine's after the rows so far, and the tables keep their lengths.
--- The measure is the number of rows left. Assumes nothing.
+-- `stitching::stitch` meets its contract. The loop's invariant: the run is the table machine's after the rows so far, the words of the next row's upper
+-- samples are kept, and the tables keep their lengths. The measure is the number of rows left. Assumes nothing.
 use mathlib.Core.Path.{_≡_, _∙_}
 use Prim.Native.Nat.{suc, _-_, _≤_}
 use native.Mathlib.Numerals.{add-one}
@@ -8,6 +8,9 @@ use lib.ListN.{length}
 use borrow.Author.Needs.{needs}
 use Rattle.scope.specs.Limits.{sideLimit}
 use Rattle.scope.specs.Terrain.{atLeast, terrain}
+use Rattle.scan.specs.Rows.{Kept}
+use Rattle.scan.proofs.Samples.{terrain-outside}
+use Rattle.scan.proofs.Rows.{no-words-above}
 use Rattle.machine.specs.Machine.{runAfter, runOver}
 use Rattle.stitching.specs.Values.{runOf}
 use Rattle.stitching.proofs.Steps.{run-begins, next-row, run-ends, a-row-more-fits}
@@ -15,24 +18,26 @@ use Rattle.stitching.proofs.stitch.Statement.{statement}
 use Rattle.stitching.proofs.stitch.Tie as tie
 
 abbrev Inv-loop : tie.InvT-loop
-Inv-loop values level dx dy lines₀ links₀ run₀ r₀ lines links run r =
+Inv-loop values level dx dy marks lines₀ links₀ row₀ run₀ r₀ lines links row run r =
     (r ≤ suc dy)
     × (runOf lines links run ≡ runAfter (terrain (atLeast (level .threshold)) values dx dy) dx (runOver lines₀ links₀) r 0)
+    × Kept (terrain (atLeast (level .threshold)) values dx dy) r row
     × (length lines ≡ length lines₀)
     × (length links ≡ length links₀)
 
 abbrev μ-loop : tie.MeasureT-loop
-μ-loop values level dx dy lines₀ links₀ run₀ r₀ lines links run r = suc dy - r
+μ-loop values level dx dy marks lines₀ links₀ row₀ run₀ r₀ lines links row run r = suc dy - r
 
 loop-holds : tie.Need-loop-holds Inv-loop μ-loop
 unfolding runOver
-loop-holds c = (omega arith, run-begins _ _ _, search needs, search needs)
+loop-holds c = (omega arith, run-begins _ _ _, no-words-above _ (terrain-outside _ _ _ _), search needs, search needs)
 
 stitch-row-requires : tie.Need-stitch-row-requires Inv-loop μ-loop
 stitch-row-requires c κs =
-    let turn = c .before .before in
-    let start = turn .before .before .before .before .before in
-    (start .pre, (omega arith, a-row-more-fits _ _ _ _ _ (turn .before .loop .inv .1) (start .pre .columns) (omega arith)))
+    let at-loop = c .before .before .before .before in
+    let start = at-loop .before .before .before .before in
+    let so-far = at-loop .loop .inv in
+    (start .pre .0, (omega arith, (so-far .2, (start .pre .1, a-row-more-fits _ _ _ _ _ (so-far .1) (start .pre .0 .columns) (omega (arith, start .pre .0 .rows))))))
 
 add-r : tie.Need-add-r Inv-loop μ-loop
 unfolding sideLimit
@@ -44,11 +49,13 @@ loop-less c = omega arith
 loop-again : tie.Need-loop-again Inv-loop μ-loop
 loop-again c =
     let at-stitch-row = c .before .before .before .before in
-    let so-far = at-stitch-row .before .before .before .before .loop .inv in (
+    let row = at-stitch-row .stitch-row .ensures in
+    let so-far = at-stitch-row .before .before .before .before .before .loop .inv in (
       omega arith,
-      rw add-one (at-stitch-row .stitch-row .ensures ∙ rw (so-far .1) (next-row _ _ _ _)),
-      at-stitch-row .stitch-row .kept .1 .1 .1 .1 .1 .0 ∙ so-far .2,
-      at-stitch-row .stitch-row .kept .1 .1 .1 .1 .1 .1 .0 ∙ so-far .3,
+      rw add-one (row .0 ∙ rw (so-far .1) (next-row _ _ _ _)),
+      rw add-one (row .1),
+      at-stitch-row .stitch-row .kept .1 .1 .1 .1 .1 .1 .1 .0 ∙ so-far .3,
+      at-stitch-row .stitch-row .kept .1 .1 .1 .1 .1 .1 .1 .1 .0 ∙ so-far .4,
     )
 
 same-length : tie.Need-same-length Inv-loop μ-loop

@@ -1,0 +1,3 @@
+-- What the proofs of this crate share, and in `Laws` what its callers cite.
+pub mod Packing
+pub mod Laws
