@@ -24,8 +24,8 @@
  *     directory      4 * R             uint32_t
  *
  * contour_first_report gives S and H, which size both work tables. contour_second_report, lent these,
- * gives R too, which sizes the outputs. R is at most S / 4, for a caller who would rather not ask twice.
- * S is at most 2 * dx * dy + dx + dy, and H at most (dx + 2) / 2.
+ * gives R and the number of points S + R too, which size the outputs. R is at most S / 4, for a caller who
+ * would rather not ask twice. S is at most 2 * dx * dy + dx + dy, and H at most (dx + 2) / 2.
  *
  * Refusals. The lowest that applies is returned, alone:
  *
@@ -60,14 +60,15 @@ uint32_t contour_first_report(const double *values, size_t count, double thresho
                               uint32_t *segments, uint32_t *peak);
 
 /*
- * Counts S, R and H with both work tables: lines is the open table, links the link table.
+ * Counts S, R, H and the points of all rings with both work tables: lines is the open table, links the link
+ * table.
  *
- * Returns 0, sets *segments, *rings and *peak, and leaves zeros in the needed words of both work tables; or
- * returns 1, 2, 5 or 6.
+ * Returns 0, sets *segments to S, *rings to R, *peak to H and *points to S + R, and leaves zeros in the
+ * needed words of both work tables; or returns 1, 2, 5 or 6.
  */
 uint32_t contour_second_report(const double *values, size_t count, double threshold, size_t dx, size_t dy,
                                uint32_t *lines, size_t lines_words, uint32_t *links, size_t links_words,
-                               uint32_t *segments, uint32_t *rings, uint32_t *peak);
+                               uint32_t *segments, uint32_t *rings, uint32_t *peak, uint32_t *points);
 
 /*
  * Draws the rings of the terrain, in the order in which they close.

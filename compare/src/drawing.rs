@@ -2,7 +2,7 @@
 //! the room, the answer and the final tables of every call.
 
 use crate::counts::Counts;
-use crate::entries::{Entry, Lent, Room, Table, PEAK, RINGS, SEGMENTS};
+use crate::entries::{Entry, Lent, Room, Table, PEAK, POINTS, RINGS, SEGMENTS};
 use crate::rings::Grid;
 
 const LONGEST_SIDE: usize = 4_096;
@@ -75,6 +75,9 @@ impl Drawing {
         }
         if entry != Entry::FirstReport {
             lent.set(RINGS, self.rings() as u32);
+        }
+        if entry == Entry::SecondReport {
+            lent.set(POINTS, (self.points.len() / 2) as u32);
         }
         if entry == Entry::Rings {
             lent.points()[..self.points.len()].copy_from_slice(&self.points);

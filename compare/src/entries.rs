@@ -87,14 +87,15 @@ const GUARD: u32 = 0xC0DE_CA5E;
 const GUARDS: usize = 4;
 /// Stands in each output before a call: no count comes near it.
 const UNSET: u32 = 0x5A5A_5A5A;
-/// The places of the sheet: three tables and three outputs.
-const NAMES: [&str; 6] = [
+/// The places of the sheet: three tables and four outputs.
+const NAMES: [&str; 7] = [
     "open table",
     "link table",
     "directory",
     "*segments",
     "*rings",
     "*peak",
+    "*points",
 ];
 const LINES: usize = 0;
 const LINKS: usize = 1;
@@ -102,6 +103,7 @@ const DIRECTORY: usize = 2;
 pub const SEGMENTS: usize = 3;
 pub const RINGS: usize = 4;
 pub const PEAK: usize = 5;
+pub const POINTS: usize = 6;
 
 /// All that a call may write.
 #[derive(Clone)]
@@ -114,7 +116,7 @@ pub struct Lent {
 impl Lent {
     /// Tables of this room, with zeros, ones, small numbers or any numbers in them.
     pub fn new(random: &mut Random, room: Room) -> Self {
-        let end = places(room)[5].end + GUARDS;
+        let end = places(room)[POINTS].end + GUARDS;
         let mut lent = Lent {
             words: vec![GUARD; end],
             points: vec![GUARD as u16; room.of(Table::Points) + 2 * GUARDS],
@@ -131,7 +133,7 @@ impl Lent {
             lent.table(table).fill_with(|| filler() as u32);
         }
         lent.points().fill_with(|| filler() as u16);
-        for output in [SEGMENTS, RINGS, PEAK] {
+        for output in [SEGMENTS, RINGS, PEAK, POINTS] {
             lent.set(output, UNSET);
         }
         lent
@@ -153,7 +155,7 @@ impl Lent {
         &mut self.points[GUARDS..end]
     }
 
-    /// Sets one of the three outputs.
+    /// Sets one of the four outputs.
     pub fn set(&mut self, output: usize, number: u32) {
         let place = places(self.room)[output].start;
         self.words[place] = number;
@@ -186,10 +188,10 @@ impl Lent {
     }
 }
 
-fn places(room: Room) -> [Range<usize>; 6] {
+fn places(room: Room) -> [Range<usize>; 7] {
     let mut end = 0;
     let [lines, links, _, directory] = room.0;
-    [lines, links, directory, 1, 1, 1].map(|words| {
+    [lines, links, directory, 1, 1, 1, 1].map(|words| {
         let start = end + GUARDS;
         end = start + words;
         start..end
@@ -197,7 +199,7 @@ fn places(room: Room) -> [Range<usize>; 6] {
 }
 
 /// The name of word k of the sheet.
-fn named(k: usize, places: &[Range<usize>; 6]) -> String {
+fn named(k: usize, places: &[Range<usize>; 7]) -> String {
     match places.iter().position(|place| k < place.end) {
         Some(at) if k >= places[at].start => match at {
             0..=2 => format!("word {} of the {}", k - places[at].start, NAMES[at]),
@@ -249,6 +251,7 @@ fn second_report(asked: &Asked, lent: &mut Lent) -> u32 {
             lent.at(SEGMENTS),
             lent.at(RINGS),
             lent.at(PEAK),
+            lent.at(POINTS),
         )
     }
 }

@@ -45,15 +45,15 @@ static void demand(uint32_t number) {
 /* Sizes the work tables by the first report and the outputs by the second. */
 static struct tables lend_tables(void) {
     struct tables t;
-    uint32_t segments, rings, peak;
+    uint32_t segments, rings, peak, points;
     demand(contour_first_report(values, COUNT, threshold, DX, DY, &segments, &peak));
     t.lines_words = 4 * (size_t)peak + DX + 2;
     t.links_words = 2 * (size_t)segments;
     t.lines = room(t.lines_words, sizeof *t.lines);
     t.links = room(t.links_words, sizeof *t.links);
     demand(contour_second_report(values, COUNT, threshold, DX, DY, t.lines, t.lines_words, t.links, t.links_words,
-                                 &segments, &rings, &peak));
-    t.points_words = 2 * ((size_t)segments + rings);
+                                 &segments, &rings, &peak, &points));
+    t.points_words = 2 * (size_t)points;
     t.directory_words = 4 * (size_t)rings;
     t.points = room(t.points_words, sizeof *t.points);
     t.directory = room(t.directory_words, sizeof *t.directory);

@@ -23,6 +23,7 @@ extern "C" {
         segments: *mut u32,
         rings: *mut u32,
         peak: *mut u32,
+        points: *mut u32,
     ) -> u32;
     pub fn contour_rings(
         values: *const f64,

@@ -156,7 +156,7 @@ impl Terrain<'_> {
         lines: &mut [u32],
         links: &mut [u32],
     ) -> Result<(Vec<u16>, Vec<u32>), Refusal> {
-        let (mut segments, mut rings, mut peak) = (0, 0, 0);
+        let (mut segments, mut rings, mut peak, mut points) = (0, 0, 0, 0);
         Refusal::of(unsafe {
             ffi::contour_second_report(
                 self.values.as_ptr(),
@@ -171,9 +171,10 @@ impl Terrain<'_> {
                 &mut segments,
                 &mut rings,
                 &mut peak,
+                &mut points,
             )
         })?;
-        let points = vec![0; 2 * (segments as usize + rings as usize)];
+        let points = vec![0; 2 * points as usize];
         Ok((points, vec![0; 4 * rings as usize]))
     }
 

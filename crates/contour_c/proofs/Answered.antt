@@ -13,7 +13,7 @@ use Rattle.isoringbuilder.specs.declared.SecondReport.{SecondReport}
 use Rattle.isoringbuilder.specs.declared.SecondReport.the-variants as second-is
 use Rattle.isoringbuilder.specs.declared.Built.{Built}
 use Rattle.isoringbuilder.specs.declared.Built.the-variants as built-is
-use Rattle.contour_c.specs.Rings.{firstStatus, firstSegments, firstPeak, secondStatus, secondSegments, secondRings, secondPeak, builtStatus, builtRings, SecondEntry, RingsEntry}
+use Rattle.contour_c.specs.Rings.{firstStatus, firstSegments, firstPeak, secondStatus, secondSegments, secondRings, secondPeak, secondPoints, builtStatus, builtRings, SecondEntry, RingsEntry}
 
 pub first-given : (s h old old′ : ℕ) (answer : FirstReport) → first-is.Room s h ≡ answer
     → (0 ≡ firstStatus answer) × ((s ≡ firstSegments old answer) × (h ≡ firstPeak old′ answer))
@@ -26,28 +26,31 @@ unfolding firstStatus firstSegments firstPeak
 first-kept why status old old′ answer e k = (k ∙ ap firstStatus e, (ap (firstSegments old) e, ap (firstPeak old′) e))
 
 module _ {values : List Float} {threshold : Float} {dx dy : ℕ} {lines links lines′ links′ : List ℕ} where
-  pub second-given : (s r h p segments rings peak : ℕ) (answer : SecondReport) → answer ≡ second-is.Room s r h p → SecondReported values threshold dx dy lines links answer lines′ links′
-      → SecondEntry values threshold dx dy lines links segments rings peak 0 lines′ links′ s r h
-  unfolding secondStatus secondSegments secondRings secondPeak
-  second-given s r h p segments rings peak answer e k = record {
+  pub second-given : (s r h p segments rings peak points : ℕ) (answer : SecondReport) → answer ≡ second-is.Room s r h p → SecondReported values threshold dx dy lines links answer lines′ links′
+      → SecondEntry values threshold dx dy lines links segments rings peak points 0 lines′ links′ s r h p
+  unfolding secondStatus secondSegments secondRings secondPeak secondPoints
+  second-given s r h p segments rings peak points answer e k = record {
     answer = answer;
     reported = k;
     status-is = ap secondStatus (sym e);
     segments-are = ap (secondSegments segments) (sym e);
     rings-are = ap (secondRings rings) (sym e);
     peak-is = ap (secondPeak peak) (sym e);
+    points-are = ap (secondPoints points) (sym e);
   }
 
-  pub second-kept : (why : Refusal) (status segments rings peak : ℕ) (answer : SecondReport) → answer ≡ second-is.Refused why → status ≡ refusalNumber why
-      → SecondReported values threshold dx dy lines links answer lines′ links′ → SecondEntry values threshold dx dy lines links segments rings peak status lines′ links′ segments rings peak
-  unfolding secondStatus secondSegments secondRings secondPeak
-  second-kept why status segments rings peak answer e n k = record {
+  pub second-kept : (why : Refusal) (status segments rings peak points : ℕ) (answer : SecondReport) → answer ≡ second-is.Refused why → status ≡ refusalNumber why
+      → SecondReported values threshold dx dy lines links answer lines′ links′
+      → SecondEntry values threshold dx dy lines links segments rings peak points status lines′ links′ segments rings peak points
+  unfolding secondStatus secondSegments secondRings secondPeak secondPoints
+  second-kept why status segments rings peak points answer e n k = record {
     answer = answer;
     reported = k;
     status-is = n ∙ ap secondStatus (sym e);
     segments-are = ap (secondSegments segments) (sym e);
     rings-are = ap (secondRings rings) (sym e);
     peak-is = ap (secondPeak peak) (sym e);
+    points-are = ap (secondPoints points) (sym e);
   }
 
   module _ {points directory points′ directory′ : List ℕ} where
@@ -68,9 +71,9 @@ module _ {values : List Float} {threshold : Float} {dx dy : ℕ} {lines links li
 
 module _ {values : List Float} {threshold : Float} {dx dy : ℕ} {lines links : List ℕ} where
   -- two results that meet the contract of contour_second_report on the same entry are equal
-  pub one-second-entry : {s r h : ℕ} {p q : ℕ} {pl pk ql qk : List ℕ} {ps pr ph qs qr qh : ℕ} → SecondEntry values threshold dx dy lines links s r h p pl pk ps pr ph
-      → SecondEntry values threshold dx dy lines links s r h q ql qk qs qr qh → (p ≡ q) × (pl ≡ ql) × (pk ≡ qk) × (ps ≡ qs) × (pr ≡ qr) × (ph ≡ qh)
-  one-second-entry {s} {r} {h} a b =
+  pub one-second-entry : {s r h n : ℕ} {p q : ℕ} {pl pk ql qk : List ℕ} {ps pr ph pn qs qr qh qn : ℕ} → SecondEntry values threshold dx dy lines links s r h n p pl pk ps pr ph pn
+      → SecondEntry values threshold dx dy lines links s r h n q ql qk qs qr qh qn → (p ≡ q) × (pl ≡ ql) × (pk ≡ qk) × (ps ≡ qs) × (pr ≡ qr) × (ph ≡ qh) × (pn ≡ qn)
+  one-second-entry {s} {r} {h} {n} a b =
       let e = a .reported .answers ∙ sym (b .reported .answers) in (
         a .status-is ∙ ap secondStatus e ∙ sym (b .status-is),
         a .reported .lines-are ∙ sym (b .reported .lines-are),
@@ -78,6 +81,7 @@ module _ {values : List Float} {threshold : Float} {dx dy : ℕ} {lines links : 
         a .segments-are ∙ ap (secondSegments s) e ∙ sym (b .segments-are),
         a .rings-are ∙ ap (secondRings r) e ∙ sym (b .rings-are),
         a .peak-is ∙ ap (secondPeak h) e ∙ sym (b .peak-is),
+        a .points-are ∙ ap (secondPoints n) e ∙ sym (b .points-are),
       )
 
   -- two results that meet the contract of contour_rings on the same entry are equal

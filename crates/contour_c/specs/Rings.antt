@@ -42,6 +42,10 @@ unfoldable pub secondPeak : ℕ → SecondReport → ℕ
 secondPeak old (second-is.Room s r h p) = h
 secondPeak old (second-is.Refused why) = old
 
+unfoldable pub secondPoints : ℕ → SecondReport → ℕ
+secondPoints old (second-is.Room s r h p) = p
+secondPoints old (second-is.Refused why) = old
+
 -- contour_rings, likewise
 unfoldable pub builtStatus : Built → ℕ
 builtStatus (built-is.Rings r) = 0
@@ -52,14 +56,15 @@ builtRings old (built-is.Rings r) = r
 builtRings old (built-is.Refused why) = old
 
 -- the second report's answer and tables are the library's, and the status and the outputs are that answer's
-pub record SecondEntry (values : List Float) (threshold : Float) (dx dy : ℕ) (lines links : List ℕ) (segments rings peak : ℕ) (status : ℕ) (lines′ links′ : List ℕ)
-    (segments′ rings′ peak′ : ℕ) : Type 0 where
+pub record SecondEntry (values : List Float) (threshold : Float) (dx dy : ℕ) (lines links : List ℕ) (segments rings peak points : ℕ) (status : ℕ) (lines′ links′ : List ℕ)
+    (segments′ rings′ peak′ points′ : ℕ) : Type 0 where
   pub answer : SecondReport
   pub reported : SecondReported values threshold dx dy lines links answer lines′ links′
   pub status-is : status ≡ secondStatus answer
   pub segments-are : segments′ ≡ secondSegments segments answer
   pub rings-are : rings′ ≡ secondRings rings answer
   pub peak-is : peak′ ≡ secondPeak peak answer
+  pub points-are : points′ ≡ secondPoints points answer
 
 -- contour_rings' answer and tables are the library's, and the status and the output are that answer's
 pub record RingsEntry (values : List Float) (threshold : Float) (dx dy : ℕ) (lines links points directory : List ℕ) (rings : ℕ) (status : ℕ)

@@ -78,7 +78,7 @@ pub extern "C" fn contour_first_report(
     }
 }
 
-// The segments, the rings and the peak of open lines of a grid at a threshold, over both work tables.
+// The segments, the rings, the peak of open lines and the points of a grid at a threshold, over both work tables.
 #[no_mangle]
 pub extern "C" fn contour_second_report(
     values: &[f64],
@@ -90,20 +90,22 @@ pub extern "C" fn contour_second_report(
     segments: &mut u32,
     rings: &mut u32,
     peak: &mut u32,
+    points: &mut u32,
 ) -> u32
-    ensures { λ r. ⌜ SecondEntry (now (values .entry)) threshold dx dy (now (lines .entry)) (now (links .entry)) (now (segments .entry)) (now (rings .entry)) (now (peak .entry)) r
-        (now (lines .exit)) (now (links .exit)) (now (segments .exit)) (now (rings .exit)) (now (peak .exit)) ⌝ }
+    ensures { λ r. ⌜ SecondEntry (now (values .entry)) threshold dx dy (now (lines .entry)) (now (links .entry)) (now (segments .entry)) (now (rings .entry)) (now (peak .entry)) (now (points .entry)) r
+        (now (lines .exit)) (now (links .exit)) (now (segments .exit)) (now (rings .exit)) (now (peak .exit)) (now (points .exit)) ⌝ }
 {
     match isoringbuilder::second_report(values, Level { threshold }, dx, dy, lines, links) {
         SecondReport::Room {
             segments: drawn,
             rings: closed,
             peak: highest,
-            points: _,
+            points: placed,
         } => {
             *segments = drawn;
             *rings = closed;
             *peak = highest;
+            *points = placed;
             0
         }
         SecondReport::Refused(refusal) => error::number(refusal),

@@ -25,7 +25,7 @@ same-length-2 : tie.Need-same-length-2
 same-length-2 c = search needs
 
 returns : tie.Need-returns
-returns c = second-given _ _ _ _ _ _ _ _ (c .before .drawn .given .1) (c .before .before .before .before .before .before .before .second-report .ensures)
+returns c = second-given _ _ _ _ _ _ _ _ _ (c .before .drawn .given .1) (c .before .before .before .before .before .before .before .second-report .ensures)
 
 same-length-3 : tie.Need-same-length-3
 same-length-3 c = search needs
@@ -34,7 +34,7 @@ same-length-4 : tie.Need-same-length-4
 same-length-4 c = search needs
 
 returns-2 : tie.Need-returns-2
-returns-2 c = second-kept _ _ _ _ _ _ (c .before .before .refusal .given .1) (c .number .ensures) (c .before .before .before .before .before .before .before .before .second-report .ensures)
+returns-2 c = second-kept _ _ _ _ _ _ _ (c .before .before .refusal .given .1) (c .number .ensures) (c .before .before .before .before .before .before .before .before .second-report .ensures)
 
 pub contour-second-report-spec : {M : Type 1} → statement M
 contour-second-report-spec =
