@@ -134,6 +134,9 @@ fn compare_rings(tally: &mut Tally, rounds: u64) {
         tally.part("rings, several refusals at once", |t| {
             grid_refusals::mixed(t, random)
         });
+        tally.part("rings, about words and tiles", |t| {
+            grids += ring_checks::words_and_tiles(t, random)
+        });
     }
     tally.part("rings, 4,096 by 4,096", |t| {
         ring_checks::largest_grid(t, random)

@@ -4,7 +4,7 @@ use crate::counts::peak_by_lookup;
 use crate::drawing::{answer, Drawing};
 use crate::entries::{call, Asked, Entry, Lent, Room, Table};
 use crate::random::Random;
-use crate::rings::{random_grid, small_grids, Grid};
+use crate::rings::{flat_grid, random_grid, small_grids, Grid};
 use crate::tally::Tally;
 
 /// How many small grids of random shape a round draws, and their longest side.
@@ -55,6 +55,21 @@ pub fn thin_grids(tally: &mut Tally, random: &mut Random) -> u64 {
         for long in [LONGEST_SIDE, random.between(65, LONGEST_SIDE)] {
             grids += compare_random(tally, random, (thin, long));
             grids += compare_random(tally, random, (long, thin));
+        }
+    }
+    grids
+}
+
+/// Columns about whole words of 64 samples, and rows about tiles of 66: a random grid and a flat one of each
+/// shape.
+pub fn words_and_tiles(tally: &mut Tally, random: &mut Random) -> u64 {
+    let mut grids = 0;
+    for dx in [62, 63, 64, 65, 66, 127, 128, 129, 191, 192, 193, 256] {
+        for dy in [1, 2, 65, 66, 67, 131, 132, 133, 198] {
+            grids += compare_random(tally, random, (dx, dy));
+            let flat = flat_grid(random, dx, dy);
+            compare_grid(tally, random, &flat);
+            grids += 1;
         }
     }
     grids

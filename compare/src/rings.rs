@@ -68,6 +68,24 @@ pub fn random_grid(random: &mut Random, dx: usize, dy: usize) -> Grid {
     }
 }
 
+/// A terrain of this shape that is flat over long stretches: blocks of equal neighbours, up to 150 samples
+/// wide and high, with some samples that stand out.
+pub fn flat_grid(random: &mut Random, dx: usize, dy: usize) -> Grid {
+    let (across, down) = (random.between(20, 150), random.between(20, 150));
+    let mut values = blocks(random, dx, dy, across, down);
+    for _ in 0..random.below(4) {
+        let place = random.below(values.len());
+        values[place] = random.below(4) as f64 / 2.0;
+    }
+    let threshold = random_threshold(random, &values);
+    Grid {
+        dx,
+        dy,
+        values,
+        threshold,
+    }
+}
+
 /// Zeros and ones, from nearly all zeros to nearly all ones.
 fn speckled(random: &mut Random, count: usize) -> Vec<f64> {
     let share = random.between(1, 15);
@@ -110,9 +128,14 @@ fn circles(random: &mut Random, dx: usize, dy: usize) -> Vec<f64> {
     (0..dx * dy).map(|k| height(k % dx, k / dx)).collect()
 }
 
-/// Blocks of equal neighbours.
+/// Small blocks of equal neighbours.
 fn plateaus(random: &mut Random, dx: usize, dy: usize) -> Vec<f64> {
     let (across, down) = (random.between(1, 6), random.between(1, 6));
+    blocks(random, dx, dy, across, down)
+}
+
+/// Blocks of equal neighbours, of this width and height.
+fn blocks(random: &mut Random, dx: usize, dy: usize, across: usize, down: usize) -> Vec<f64> {
     let blocks_across = dx / across + 1;
     let heights: Vec<f64> = (0..blocks_across * (dy / down + 1))
         .map(|_| random.below(4) as f64 / 2.0)
