@@ -4,8 +4,6 @@ use Rattle.contour_c.proofs.Answered.{first-given, first-kept}
 use borrow.Author.Needs.{needs}
 use Rattle.contour_c.proofs.contour_first_report.Statement.{statement}
 use Rattle.contour_c.proofs.contour_first_report.Tie as tie
-use Rattle.contour_c.proofs.contour_first_report.Reads as reads
-use Rattle.contour_c.proofs.contour_first_report.Lts as lts
 
 first-report-requires : tie.Need-first-report-requires
 first-report-requires c κs = search needs

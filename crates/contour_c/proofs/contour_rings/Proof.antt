@@ -3,8 +3,6 @@ use Rattle.contour_c.proofs.Answered.{rings-given, rings-kept}
 use borrow.Author.Needs.{needs}
 use Rattle.contour_c.proofs.contour_rings.Statement.{statement}
 use Rattle.contour_c.proofs.contour_rings.Tie as tie
-use Rattle.contour_c.proofs.contour_rings.Reads as reads
-use Rattle.contour_c.proofs.contour_rings.Lts as lts
 
 contour-rings-requires : tie.Need-contour-rings-requires
 contour-rings-requires c κs = search needs

@@ -3,8 +3,6 @@ use Rattle.contour_c.proofs.Answered.{second-given, second-kept}
 use borrow.Author.Needs.{needs}
 use Rattle.contour_c.proofs.contour_second_report.Statement.{statement}
 use Rattle.contour_c.proofs.contour_second_report.Tie as tie
-use Rattle.contour_c.proofs.contour_second_report.Reads as reads
-use Rattle.contour_c.proofs.contour_second_report.Lts as lts
 
 second-report-requires : tie.Need-second-report-requires
 second-report-requires c κs = search needs

@@ -6,82 +6,58 @@ use Rattle.isoringbuilder.proofs.Laws.{done-facts, rings-refused, built
 use borrow.Author.Needs.{needs}
 use Rattle.isoringbuilder.proofs.contour_rings.Statement.{statement}
 use Rattle.isoringbuilder.proofs.contour_rings.Tie as tie
-use Rattle.isoringbuilder.proofs.contour_rings.Reads as reads
-use Rattle.isoringbuilder.proofs.contour_rings.Lts as lts
-use Rattle.isoringbuilder.proofs.link_words.Reads as link-words-reads
-use Rattle.isoringbuilder.proofs.open_words.Reads as open-words-reads
-use Rattle.isoringbuilder.proofs.pack.Reads as pack-reads
-use Rattle.isoringbuilder.proofs.run_pass.Reads as run-pass-reads
-use Rattle.packing.proofs.clear.Reads as clear-reads
 
--- src/lib.rt:192:11
 run-pass-requires : tie.Need-run-pass-requires
 run-pass-requires c κs = search needs
 
--- src/lib.rt:193:23
 enum-known-refusal : tie.Need-enum-known-refusal
 enum-known-refusal c = search needs
 
--- src/lib.rt:194:20
 enum-known-drawing : tie.Need-enum-known-drawing
 enum-known-drawing c = search needs
 
--- src/lib.rt:195:40
 cast-pack : tie.Need-cast-pack
 cast-pack c =
     let start = c .before .before .before .before .before .before .before .before .before .before .before .before .before .before .before in
     let facts = done-facts _ _ _ _ _ _ _ _ (c .before .drawing .given .1) _ _ (c .before .before .before .before .before .before .before .run-pass .ensures) in
     omega (arith, columns-fit (start .args .values .now) (start .args .level .threshold) _ _ (facts .sized))
 
--- src/lib.rt:195:17
 pack-requires : tie.Need-pack-requires
 pack-requires c κs = search needs
 
--- src/lib.rt:198:26
 open-words-requires : tie.Need-open-words-requires
 open-words-requires c κs = done-facts _ _ _ _ _ _ _ _ (c .before .before .before .before .before .before .before .before .before .before .drawing .given .1) _ _ (c .before .before .before .before .before .before .before .before .before .before .before .before .before .before .before .before .run-pass .ensures) .sized .columns
 
--- src/lib.rt:198:13
 clear-requires : tie.Need-clear-requires
 clear-requires c κs = search needs
 
--- src/lib.rt:199:26
 link-words-requires : tie.Need-link-words-requires
 link-words-requires c κs = search needs
 
--- src/lib.rt:199:13
 clear-requires-2 : tie.Need-clear-requires-2
 clear-requires-2 c κs = search needs
 
--- src/lib.rt:179:1
 same-length : tie.Need-same-length
 same-length c = search needs
 
--- src/lib.rt:179:1
 same-length-2 : tie.Need-same-length-2
 same-length-2 c = search needs
 
--- src/lib.rt:179:1
 returns : tie.Need-returns
 returns c = rings-refused _ _ _ _ _ _ _ (c .before .refusal .given .0 .0) (c .before .refusal .given .1) _ _ (c .before .before .before .before .before .before .before .run-pass .ensures) _ _
 
--- src/lib.rt:179:1
 same-length-3 : tie.Need-same-length-3
 same-length-3 c = search needs
 
--- src/lib.rt:179:1
 same-length-4 : tie.Need-same-length-4
 same-length-4 c = search needs
 
--- src/lib.rt:179:1
 same-length-5 : tie.Need-same-length-5
 same-length-5 c = search needs
 
--- src/lib.rt:179:1
 same-length-6 : tie.Need-same-length-6
 same-length-6 c = search needs
 
--- src/lib.rt:179:1
 returns-2 : tie.Need-returns-2
 returns-2 c =
     let facts = done-facts _ _ _ _ _ _ _ _ (c .before .before .before .before .before .before .before .before .before .before .before .before .before .before .before .before .before .before .before .drawing .given .1) _ _ (c .before .before .before .before .before .before .before .before .before .before .before .before .before .before .before .before .before .before .before .before .before .before .before .before .before .run-pass .ensures) in

@@ -3,14 +3,10 @@ use Rattle.scope.specs.Room.{linkWords}
 use borrow.Author.Needs.{needs}
 use Rattle.isoringbuilder.proofs.link_words.Statement.{statement}
 use Rattle.isoringbuilder.proofs.link_words.Tie as tie
-use Rattle.isoringbuilder.proofs.link_words.Reads as reads
-use Rattle.isoringbuilder.proofs.link_words.Lts as lts
 
--- src/lib.rt:71:5
 mul-result : tie.Need-mul-result
 mul-result c = search needs
 
--- src/lib.rt:68:1
 returns : tie.Need-returns
 unfolding linkWords
 returns c = search needs

@@ -4,24 +4,18 @@ use Rattle.scope.specs.Room.{openWords}
 use borrow.Author.Needs.{needs}
 use Rattle.isoringbuilder.proofs.open_words.Statement.{statement}
 use Rattle.isoringbuilder.proofs.open_words.Tie as tie
-use Rattle.isoringbuilder.proofs.open_words.Reads as reads
-use Rattle.isoringbuilder.proofs.open_words.Lts as lts
 
--- src/lib.rt:64:5
 mul-result : tie.Need-mul-result
 mul-result c = search needs
 
--- src/lib.rt:64:5
 add-result : tie.Need-add-result
 unfolding sideLimit
 add-result c = search needs
 
--- src/lib.rt:64:5
 add-result-2 : tie.Need-add-result-2
 unfolding sideLimit
 add-result-2 c = search needs
 
--- src/lib.rt:60:1
 returns : tie.Need-returns
 unfolding openWords
 returns c = search needs

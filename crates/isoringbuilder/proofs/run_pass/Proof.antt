@@ -5,42 +5,30 @@ use Rattle.isoringbuilder.proofs.Passing.{grid-refused}
 use borrow.Author.Needs.{needs}
 use Rattle.isoringbuilder.proofs.run_pass.Statement.{statement}
 use Rattle.isoringbuilder.proofs.run_pass.Tie as tie
-use Rattle.isoringbuilder.proofs.run_pass.Reads as reads
-use Rattle.isoringbuilder.proofs.run_pass.Lts as lts
-use Rattle.isoringbuilder.proofs.pass_over.Reads as pass-over-reads
-use Rattle.scan.proofs.grid_fit.Reads as grid-fit-reads
 
--- src/lib.rt:117:11
 grid-fit-requires : tie.Need-grid-fit-requires
 grid-fit-requires c κs = search needs
 
--- src/lib.rt:118:26
 enum-known-refusal : tie.Need-enum-known-refusal
 enum-known-refusal c = search needs
 
--- src/lib.rt:119:59
 enum-told : tie.Need-enum-told
 enum-told c = search needs
 
--- src/lib.rt:119:26
 pass-over-requires : tie.Need-pass-over-requires
 pass-over-requires c κs =
     let fits = c .before .before in
     sym (fits .before .before .grid-fit .ensures) ∙ fits .enum-told .given .1
 
--- src/lib.rt:107:1
 returns : tie.Need-returns
 returns c = grid-refused _ _ _ _ _ _ (c .before .refusal .given .0 .0) (sym (c .before .before .before .grid-fit .ensures) ∙ c .before .refusal .given .1)
 
--- src/lib.rt:107:1
 same-length : tie.Need-same-length
 same-length c = search needs
 
--- src/lib.rt:107:1
 same-length-2 : tie.Need-same-length-2
 same-length-2 c = search needs
 
--- src/lib.rt:107:1
 returns-2 : tie.Need-returns-2
 returns-2 c = search needs
 
