@@ -19,20 +19,23 @@ apart false false = false
 abbrev pub active : Sheet → ℕ → ℕ → Bool
 active A r c = (apart (A (suc c) r) (A (suc c) (suc r)) || apart (A c r) (A c (suc r))) || apart (A (suc c) r) (A c r)
 
--- by the four samples, lower left, lower right, upper right and upper left: each is apart from both its neighbours; the lower right one alone is apart from
--- the others; and the upper left one alone
+-- by the four samples, lower left, lower right, upper right and upper left: the lower right one is apart from both its neighbours
 abbrev pub lowerApart : Bool → Bool → Bool → Bool → Bool
 lowerApart ll lr ur ul = apart ll lr && apart lr ur
 
+-- the upper left one is
 abbrev pub upperApart : Bool → Bool → Bool → Bool → Bool
 upperApart ll lr ur ul = apart ur ul && apart ul ll
 
+-- each of them is
 abbrev pub saddle : Bool → Bool → Bool → Bool → Bool
 saddle ll lr ur ul = lowerApart ll lr ur ul && upperApart ll lr ur ul
 
+-- the lower right one is, and the other two pairs agree
 abbrev pub opening : Bool → Bool → Bool → Bool → Bool
 opening ll lr ur ul = apart (lowerApart ll lr ur ul) (lowerApart ll lr ur ul && (apart ur ul || apart ul ll))
 
+-- the upper left one is, and the other two pairs agree
 abbrev pub closing : Bool → Bool → Bool → Bool → Bool
 closing ll lr ur ul = apart (upperApart ll lr ur ul) (upperApart ll lr ur ul && (apart ll lr || apart lr ur))
 
