@@ -59,13 +59,7 @@ pub fn random_grid(random: &mut Random, dx: usize, dy: usize) -> Grid {
         3 => circles(random, dx, dy),
         _ => plateaus(random, dx, dy),
     };
-    let threshold = random_threshold(random, &values);
-    Grid {
-        dx,
-        dy,
-        values,
-        threshold,
-    }
+    at_random_threshold(random, dx, dy, values)
 }
 
 /// A terrain of this shape that is flat over long stretches: blocks of equal neighbours, up to 150 samples
@@ -77,6 +71,11 @@ pub fn flat_grid(random: &mut Random, dx: usize, dy: usize) -> Grid {
         let place = random.below(values.len());
         values[place] = random.below(4) as f64 / 2.0;
     }
+    at_random_threshold(random, dx, dy, values)
+}
+
+/// A terrain of these values with a threshold to draw it at.
+fn at_random_threshold(random: &mut Random, dx: usize, dy: usize, values: Vec<f64>) -> Grid {
     let threshold = random_threshold(random, &values);
     Grid {
         dx,
