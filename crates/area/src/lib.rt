@@ -124,7 +124,7 @@ fn turning(ax: u16, ay: u16, bx: u16, by: u16, cx: u16, cy: u16) -> u64
 }
 
 // Whether p lies on the straight piece from a to b, ends included.
-fn on_pair(ax: u16, ay: u16, bx: u16, by: u16, px: u16, py: u16) -> bool
+pub fn on_pair(ax: u16, ay: u16, bx: u16, by: u16, px: u16, py: u16) -> bool
     ensures { λ r. ⌜ r ≡ onPair (record { x = ax; y = ay }) (record { x = bx; y = by }) (record { x = px; y = py }) ⌝ }
 {
     if !spanned(ax, ay, bx, by, px, py) {
@@ -134,7 +134,7 @@ fn on_pair(ax: u16, ay: u16, bx: u16, by: u16, px: u16, py: u16) -> bool
 }
 
 // Whether the pair a, b flips the sign: one end has y above p's and the other has not, and p is left of the exact crossing.
-fn flips(ax: u16, ay: u16, bx: u16, by: u16, px: u16, py: u16) -> bool
+pub fn flips(ax: u16, ay: u16, bx: u16, by: u16, px: u16, py: u16) -> bool
     ensures { λ r. ⌜ r ≡ flips (record { x = ax; y = ay }) (record { x = bx; y = by }) (record { x = px; y = py }) ⌝ }
 {
     if py < ay {

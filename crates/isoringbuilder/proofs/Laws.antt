@@ -3,11 +3,11 @@
 use mathlib.Core.Path.{_≡_, refl, sym, _∙_, ap, ap₂, subst}
 use mathlib.Core.Bool.{Bool, true, false, cond}
 use mathlib.Core.List.{List, _++_}
-use Prim.Native.Nat.{ℕ, suc, min, _+_, _*_, _^_, _≤_, _<_}
+use Prim.Native.Nat.{ℕ, suc, _+_, _*_, _^_, _≤_, _<_}
 use native.Mathlib.Omega.{arith}
 use lib.Dec.{ltb}
 use lib.Ieee.{Float}
-use lib.ListN.{length, drop, replicate}
+use lib.ListN.{length}
 use lib.Seq.{sets}
 use borrow.Author.Tests.{lt-ltb, le-ltb, ltb-false}
 use Rattle.error.specs.declared.Refusal.{Refusal}
@@ -21,7 +21,7 @@ use Rattle.machine.specs.Machine.{Tables}
 use Rattle.machine.specs.Walk.{walkPoints, walkRecords}
 use Rattle.machine.proofs.Built.{points-found, records-found, lines-kept, links-kept, packed-points-fill-their-room, records-fill-their-room}
 use Rattle.packing.specs.Cleared.{cleared}
-use Rattle.packing.proofs.Laws.{stores-from-the-start}
+use Rattle.packing.proofs.Laws.{stores-from-the-start, cleared-is-zeroed}
 use Rattle.scan.specs.Grid.{gridFit, Sized}
 use Rattle.scan.specs.declared.GridFit.{GridFit}
 use Rattle.scan.specs.declared.GridFit.the-variants as fit-is
@@ -99,7 +99,7 @@ module _ (values : List Float) (threshold : Float) (dx dy : ℕ) (lines links : 
           }
 
   -- what is known after a refused pass
-  refused-facts : (answer : Pass) (why : Refusal) → answer ≡ pass-is.Refused why → (lines′ links′ : List ℕ) → Passed values threshold dx dy lines links answer lines′ links′ → (verdict ≡ refused why) × (lines′ ≡ lines) × (links′ ≡ links)
+  pub refused-facts : (answer : Pass) (why : Refusal) → answer ≡ pass-is.Refused why → (lines′ links′ : List ℕ) → Passed values threshold dx dy lines links answer lines′ links′ → (verdict ≡ refused why) × (lines′ ≡ lines) × (links′ ≡ links)
   unfolding passed passTable
   refused-facts answer why is lines′ links′ k = by verdict refl (sym is ∙ k .answers) (k .lines-are) (k .links-are)
     where
@@ -137,25 +137,17 @@ module _ (values : List Float) (threshold : Float) (dx dy : ℕ) (lines links : 
     out-there : Outside (terrain (atLeast threshold) values dx dy) dx dy
     out-there = outside values threshold dx dy (done .sized)
 
-    -- a cleared work table, where its words past the need are the caller's
-    zeroed-is : (need : ℕ) (table table′ : List ℕ) → need ≤ length table′ → drop need table′ ≡ drop need table → cleared table′ need ≡ zeroed need table
-    unfolding cleared zeroed
-    zeroed-is need table table′ long past = ap₂ (λ (n : ℕ) (l : List ℕ). replicate n 0 ++ l) less past
-      where
-        less : min need (length table′) ≡ need
-        less = omega arith
-
     lines-zeroed : cleared lines′ (openWords dx (peak A dx dy)) ≡ zeroed (openWords dx (peak A dx dy)) lines
     lines-zeroed =
         let kept = lines-kept A out-there lines links (done .lines-fit) (done .links-fit) (segments-fit values threshold dx dy (done .sized)) (peak-fits values threshold dx dy (done .sized)) in
         ap (λ (l : List ℕ). cleared l (openWords dx (peak A dx dy))) (done .lines-are)
-        ∙ unfold stitchedTables in zeroed-is (openWords dx (peak A dx dy)) lines (stitched .lines) (kept .0) (kept .1)
+        ∙ unfold stitchedTables in cleared-is-zeroed (openWords dx (peak A dx dy)) lines (stitched .lines) (kept .0) (kept .1)
 
     links-zeroed : cleared links′ (linkWords (segmentCount A dx dy)) ≡ zeroed (linkWords (segmentCount A dx dy)) links
     links-zeroed =
         let kept = links-kept A out-there lines links (done .lines-fit) (done .links-fit) (segments-fit values threshold dx dy (done .sized)) (peak-fits values threshold dx dy (done .sized)) in
         ap (λ (l : List ℕ). cleared l (linkWords (segmentCount A dx dy))) (done .links-are)
-        ∙ unfold stitchedTables in zeroed-is (linkWords (segmentCount A dx dy)) links (stitched .links) (kept .0) (kept .1)
+        ∙ unfold stitchedTables in cleared-is-zeroed (linkWords (segmentCount A dx dy)) links (stitched .links) (kept .0) (kept .1)
 
     pub reported-done : SecondReported values threshold dx dy lines links
         (report-is.Room (drawing .segments) (drawing .rings) (drawing .peak) (drawing .segments + drawing .rings))

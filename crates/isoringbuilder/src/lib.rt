@@ -55,7 +55,7 @@ pub enum Pass {
 }
 
 // The words that the open table needs for this peak: 4H + dx + 2.
-fn open_words(dx: usize, peak: u32) -> usize
+pub fn open_words(dx: usize, peak: u32) -> usize
     requires { ⌜ dx ≤ sideLimit ⌝ }
     ensures { λ r. ⌜ r ≡ openWords dx peak ⌝ }
 {
@@ -63,7 +63,7 @@ fn open_words(dx: usize, peak: u32) -> usize
 }
 
 // The words that the link table needs for this many segments: 2S.
-fn link_words(segments: u32) -> usize
+pub fn link_words(segments: u32) -> usize
     ensures { λ r. ⌜ r ≡ linkWords segments ⌝ }
 {
     2 * (segments as usize)
@@ -103,7 +103,7 @@ fn pass_over(
 }
 
 // The stitching pass over the lent work tables, where the grid and both tables fit; nothing is touched where they do not.
-fn run_pass(
+pub fn run_pass(
     values: &[f64],
     level: Level,
     dx: usize,
@@ -150,7 +150,7 @@ pub fn second_report(
 }
 
 // The points and the directory of the rings that a pass has drawn, where both fit; both are spared where one does not.
-fn pack(
+pub fn pack(
     drawing: Drawing,
     dx: u32,
     links: &[u32],

@@ -1,13 +1,14 @@
 -- What callers cite of stores one after the other and of a cleared table: the lengths, what stands where, and that clearing twice is clearing once.
 -- By induction on the lists. Assumes nothing.
-use mathlib.Core.Path.{_≡_, refl, ap, _∙_}
+use mathlib.Core.Path.{_≡_, refl, ap, ap₂, _∙_}
 use mathlib.Core.List.{List, [], _∷_, _++_}
-use Prim.Native.Nat.{ℕ, zero, suc, _+_, _≤_, _<_}
+use Prim.Native.Nat.{ℕ, zero, suc, min, _+_, _≤_, _<_}
 use native.Mathlib.Nat.{add-zero, zero-add, zero-min, min-zero, suc-min-suc}
 use native.Mathlib.Numerals.{add-one}
 use native.Mathlib.Omega.{arith}
 use lib.ListN.{length, getD, set, take, drop, replicate}
 use lib.Seq.{sets, sets-eq, length-sets, set-out, drop-nil, take-append-seam, drop-append-seam}
+use Rattle.scope.specs.Tables.{zeroed}
 use Rattle.packing.specs.Cleared.{cleared}
 
 -- ---- stores one after the other
@@ -93,3 +94,11 @@ one-word-more table i = rw add-one (one-more table i)
     one-more [] i = rw (cleared-empty i, cleared-empty (suc i))
     one-more (w ∷ table) zero = rw (cleared-none (w ∷ table), cleared-word w table 0, cleared-none table)
     one-more (w ∷ table) (suc i) = rw (cleared-word w table i, cleared-word w table (suc i), one-more table i)
+
+-- a cleared table is zeroed, where its words past the need are as they were
+pub cleared-is-zeroed : (need : ℕ) (table table′ : List ℕ) → need ≤ length table′ → drop need table′ ≡ drop need table → cleared table′ need ≡ zeroed need table
+unfolding cleared zeroed
+cleared-is-zeroed need table table′ long past = ap₂ (λ (n : ℕ) (l : List ℕ). replicate n 0 ++ l) less past
+  where
+    less : min need (length table′) ≡ need
+    less = omega arith

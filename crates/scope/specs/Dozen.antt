@@ -14,7 +14,7 @@ use Rattle.scope.specs.Drawing.{along, down, upTo, withCell, segmentsAft
 use Rattle.scope.specs.Area.{twist, twists, lastOf, area, positive}
 use Rattle.scope.specs.Containment.{Answer, outside, boundary, isZero, below, belowFraction, collinear, between, onPair, leftOfCrossing, flips, signed, walk, pointAgainst, decide, ringAgainst, notOutside}
 use Rattle.scope.specs.Contour.{Fate, polygon, hole, dropped, takes, ownerFrom, fatesBy, contourClasses, contourFates}
-use Rattle.scope.specs.Band.{sortKey, Numbered, numberedFrom, insert, sorted, bandOrder, takers, classesFrom, bandFates}
+use Rattle.scope.specs.Band.{sortKey, Numbered, numberedFrom, insert, sorted, bandOrder, orderRings, takers, classesFrom, bandFates}
 use Rattle.scope.specs.Smoothing.{whole, half, realOf, moved, sampleAt, moves, Vertex, smoothed}
 
 -- a row's result, of the kind that the row speaks of
@@ -40,7 +40,7 @@ countsAt values t dx dy =
 
 -- a band's rings in its order
 bandRings : List Float → Float → Float → ℕ → ℕ → List Line
-bandRings values low high dx dy = map (λ n. n .ring) (bandOrder (ringsAt values low dx dy) (ringsAt values high dx dy))
+bandRings values low high dx dy = orderRings (bandOrder (ringsAt values low dx dy) (ringsAt values high dx dy))
 
 diagonal : List Float
 diagonal = map whole (0 ∷ 1 ∷ 1 ∷ 0 ∷ [])
@@ -91,5 +91,5 @@ stated =
     ∷ []
 
 pub the-dozen : computed ≡ stated
-unfolding computed stated ringsAt countsAt bandRings diagonal frame peaked one moving atLeast sheet terrain numberOf cellNumber samePoint pointOf caseTable drawn placed cellSegments startsAt endsAt find without nothing close join append prepend start stitchAt stitch stitchAll along down upTo withCell segmentsAfter drawingAfter openAfter ringsAfter segmentsOf ringsOf segmentCount ringCount higher peak twist twists lastOf area positive isZero below belowFraction collinear between onPair leftOfCrossing flips signed walk pointAgainst decide ringAgainst notOutside takes ownerFrom fatesBy contourClasses contourFates sortKey numberedFrom insert sorted bandOrder takers classesFrom bandFates whole half realOf moved sampleAt moves smoothed xor Ieee.le Ieee.ofInt Ieee.add Ieee.sub Ieee.mul Ieee.div
+unfolding computed stated ringsAt countsAt bandRings diagonal frame peaked one moving atLeast sheet terrain numberOf cellNumber samePoint pointOf caseTable drawn placed cellSegments startsAt endsAt find without nothing close join append prepend start stitchAt stitch stitchAll along down upTo withCell segmentsAfter drawingAfter openAfter ringsAfter segmentsOf ringsOf segmentCount ringCount higher peak twist twists lastOf area positive isZero below belowFraction collinear between onPair leftOfCrossing flips signed walk pointAgainst decide ringAgainst notOutside takes ownerFrom fatesBy contourClasses contourFates sortKey numberedFrom insert sorted bandOrder orderRings takers classesFrom bandFates whole half realOf moved sampleAt moves smoothed xor Ieee.le Ieee.ofInt Ieee.add Ieee.sub Ieee.mul Ieee.div
 the-dozen = refl

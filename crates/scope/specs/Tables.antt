@@ -1,10 +1,11 @@
 -- The tables at exit: work tables zeroed, points packed in record order, and directory records. Assumes nothing.
-use Prim.Native.Nat.{ℕ, suc, _+_}
+use Prim.Native.Nat.{ℕ, zero, suc, _+_}
 use mathlib.Core.List.{List, [], _∷_, _++_, map}
 use lib.ListN.{length, drop, replicate}
 use Rattle.scope.specs.Cells.{Point}
 use Rattle.scope.specs.Stitching.{Line}
-use Rattle.scope.specs.Contour.{Fate, line, classWord, ownerWord}
+use Rattle.scope.specs.Contour.{Fate, line, classWord, ownerWord, contourFates}
+use Rattle.scope.specs.Band.{Numbered, numberedFrom, bandOrder, orderRings, bandFates}
 
 -- the needed words are zero, and those past the need as they were
 unfoldable pub zeroed : ℕ → List ℕ → List ℕ
@@ -32,3 +33,26 @@ recordOf k first ring fate = first ∷ length ring ∷ classWord fate ∷ ownerW
 unfoldable pub bareRecords : ℕ → ℕ → List Line → List ℕ
 bareRecords k first [] = []
 bareRecords k first (ring ∷ rings) = recordOf k first ring line ++ bareRecords (suc k) (first + length ring) rings
+
+-- the number of the first point of the ring of number i, where all rings are packed
+unfoldable pub firstPoint : List Line → ℕ → ℕ
+firstPoint rings zero = 0
+firstPoint [] (suc i) = 0
+firstPoint (ring ∷ rings) (suc i) = length ring + firstPoint rings i
+
+-- the records of rings in an order, numbered from k, each with its fate; all are the rings as they are packed
+unfoldable pub orderedRecords : List Line → ℕ → List Numbered → List Fate → List ℕ
+orderedRecords all k [] fates = []
+orderedRecords all k (n ∷ ns) [] = []
+orderedRecords all k (n ∷ ns) (fate ∷ fates) = recordOf k (firstPoint all (n .number)) (n .ring) fate ++ orderedRecords all (suc k) ns fates
+
+-- a contour's records stand by ring number
+unfoldable pub contourRecords : List Line → List ℕ
+contourRecords rings = orderedRecords rings 0 (numberedFrom 0 rings) (contourFates rings)
+
+-- a band's points stand lower set first, then upper, each by ring number, and its records in its sorted order
+unfoldable pub bandPoints : List Line → List Line → List ℕ
+bandPoints lower upper = packedPoints (lower ++ upper)
+
+unfoldable pub bandRecords : List Line → List Line → List ℕ
+bandRecords lower upper = orderedRecords (lower ++ upper) 0 (bandOrder lower upper) (bandFates (orderRings (bandOrder lower upper)))

@@ -1,0 +1,204 @@
+-- From the pass, the packing and the owners to the contract of contours: what contour_rings leaves, with the records' classes and owners in place of bare ones.
+-- Assumes nothing.
+use mathlib.Core.Path.{_≡_, refl, sym, _∙_, ap, ap₂, subst}
+use mathlib.Core.Bool.{Bool}
+use mathlib.Core.List.{List, [], _∷_, _++_, map}
+use Prim.Native.Nat.{ℕ, suc, min, _+_, _*_, _^_, _≤_, _<_}
+use native.Mathlib.Omega.{arith}
+use lib.Ieee.{Float}
+use lib.ListN.{length, getD, take, drop, replicate, length-append}
+use lib.Seq.{length-take-le, drop-at}
+use Rattle.error.specs.declared.Refusal.{Refusal}
+use Rattle.scope.specs.Limits.{recordStride}
+use Rattle.scope.specs.Terrain.{Sheet, atLeast, terrain}
+use Rattle.scope.specs.Stitching.{Line}
+use Rattle.scope.specs.Drawing.{segmentCount, ringCount, ringsOf, peak}
+use Rattle.scope.specs.Contour.{Fate, contourFates, contourClasses, fatesBy}
+use Rattle.scope.specs.Band.{Numbered, numberedFrom}
+use Rattle.scope.specs.Room.{openWords, linkWords, directoryWords}
+use Rattle.scope.specs.Tables.{written, packedPoints, bareRecords, recordOf, orderedRecords, contourRecords}
+use Rattle.machine.proofs.Built.{links-kept, records-fill-their-room}
+use Rattle.packing.specs.Cleared.{cleared}
+use Rattle.extents.specs.Records.{recordCount}
+use Rattle.regions.specs.Regions.{countedRings}
+use Rattle.isoringbuilder.specs.Verdict.{Verdict, refused, passes, workVerdict, outputVerdict}
+use Rattle.isoringbuilder.specs.Answers.{outputAfter, built, RingsBuilt}
+use Rattle.isoringbuilder.specs.Pass.{stitchedTables, Passed, Packed}
+use Rattle.isoringbuilder.specs.declared.Pass.{Pass}
+use Rattle.isoringbuilder.specs.declared.Pass.the-variants as pass-is
+use Rattle.isoringbuilder.specs.declared.Drawing.{Drawing}
+use Rattle.isoringbuilder.specs.declared.Built.{Built}
+use Rattle.isoringbuilder.specs.declared.Built.the-variants as built-is
+use Rattle.isoringbuilder.proofs.Limits.{outside, segments-fit, peak-fits, points-fit}
+use Rattle.isoringbuilder.proofs.Laws.{Done, refused-facts, rings-refused, built-done}
+use Rattle.contourbuilder.specs.Contours.{ContoursBuilt, Ownable, ownedDirectory, OwnersFound}
+use Rattle.contourbuilder.proofs.Laid.{Laid, rings-are, workable}
+use Rattle.contourbuilder.proofs.Sizes.{bare-count, fours, few-segments, rings-drawn, points-are}
+
+-- a fate for each ring, and a record for each fate
+fates-length : (classes : List Bool) (all : List Line) (cs : List Bool) (rings : List Line) → length cs ≡ length rings → length (fatesBy classes all cs rings) ≡ length rings
+unfolding fatesBy
+fates-length classes all [] [] e = refl
+fates-length classes all [] (ring ∷ rings) e = absurd (omega arith)
+fates-length classes all (c ∷ cs) [] e = absurd (omega arith)
+fates-length classes all (c ∷ cs) (ring ∷ rings) e = ap suc (fates-length classes all cs rings (omega arith))
+
+pub records-length : (all : List Line) (k : ℕ) (order : List Numbered) (fates : List Fate) → length fates ≡ length order → length (orderedRecords all k order fates) ≡ 4 * length order
+unfolding orderedRecords recordOf
+records-length all k [] fates e = refl
+records-length all k (n ∷ ns) [] e = absurd (omega arith)
+records-length all k (n ∷ ns) (fate ∷ fates) e = omega (arith, records-length all (suc k) ns fates (omega arith))
+
+numbered-length : (k : ℕ) (rings : List Line) → length (numberedFrom k rings) ≡ length rings
+unfolding numberedFrom
+numbered-length k [] = refl
+numbered-length k (ring ∷ rings) = ap suc (numbered-length (suc k) rings)
+
+classes-length : (rings : List Line) → length (contourClasses rings) ≡ length rings
+unfolding contourClasses
+classes-length [] = refl
+classes-length (ring ∷ rings) = ap suc (classes-length rings)
+
+pub contour-length : (rings : List Line) → length (contourRecords rings) ≡ 4 * length rings
+unfolding contourRecords contourFates
+contour-length rings =
+    records-length rings 0 (numberedFrom 0 rings) (contourFates rings)
+    (unfold contourFates in fates-length (contourClasses rings) rings (contourClasses rings) rings (classes-length rings) ∙ sym (numbered-length 0 rings))
+    ∙ ap (λ (n : ℕ). 4 * n) (numbered-length 0 rings)
+
+-- words written over words that are as many
+pub written-over : (new old table : List ℕ) → length new ≡ length old → written new (written old table) ≡ written new table
+unfolding written
+written-over new old table e = ap (λ (l : List ℕ). new ++ l) (drop-at old (drop (length old) table) (length new) (sym e) ∙ ap (λ (n : ℕ). drop n table) (sym e))
+
+-- clearing asks only for the length and the words past the need
+pub cleared-same : (words : ℕ) (table table′ : List ℕ) → length table′ ≡ length table → drop words table′ ≡ drop words table → cleared table′ words ≡ cleared table words
+unfolding cleared
+cleared-same words table table′ long past = ap₂ (λ (n : ℕ) (l : List ℕ). replicate (min words n) 0 ++ l) long past
+
+module _ (values : List Float) (threshold : Float) (dx dy : ℕ) (lines links : List ℕ) where
+  abbrev A : Sheet
+  A = terrain (atLeast threshold) values dx dy
+
+  pub contours-refused : (answer : Pass) (why : Refusal) → answer ≡ pass-is.Refused why → (lines′ links′ : List ℕ) → Passed values threshold dx dy lines links answer lines′ links′ → (points directory : List ℕ)
+      → ContoursBuilt values threshold dx dy lines links points directory (built-is.Refused why) lines′ links′ points directory
+  unfolding outputAfter
+  contours-refused answer why is lines′ links′ k points directory =
+      let rings = rings-refused values threshold dx dy lines links answer why is lines′ links′ k points directory in
+      let facts = refused-facts values threshold dx dy lines links answer why is lines′ links′ k in
+      record {
+        answers = rings .answers;
+        lines-are = rings .lines-are;
+        links-are = rings .links-are;
+        points-are = rings .points-are;
+        directory-is = ap (λ (v : Verdict). outputAfter v (outputVerdict A dx dy (length points) (length directory)) (contourRecords (ringsOf A dx dy)) directory) (sym (facts .0));
+      }
+
+  module _ (drawing : Drawing) (lines₁ links₁ : List ℕ) (done : Done values threshold dx dy lines links drawing lines₁ links₁) (points directory : List ℕ) (answer : Built) (points′ directory₁ : List ℕ)
+      (packed : Packed drawing dx links₁ points directory answer points′ directory₁) where
+    -- what contour_rings would leave here
+    bare : RingsBuilt values threshold dx dy lines links points directory answer (cleared lines₁ (openWords dx (drawing .peak))) (cleared links₁ (linkWords (drawing .segments))) points′ directory₁
+    bare = built-done values threshold dx dy lines links drawing lines₁ links₁ done points directory answer points′ directory₁ packed
+
+    abbrev outputs : Verdict
+    outputs = outputVerdict A dx dy (length points) (length directory)
+
+    words-are : linkWords (drawing .segments) ≡ linkWords (segmentCount A dx dy)
+    words-are = ap (λ (d : Drawing). linkWords (d .segments)) (done .is-drawing)
+
+    links-long : linkWords (segmentCount A dx dy) ≤ length links₁
+    links-long =
+        let sized = done .sized in
+        let kept = links-kept A (outside values threshold dx dy sized) lines links (done .lines-fit) (done .links-fit) (segments-fit values threshold dx dy sized) (peak-fits values threshold dx dy sized) in
+        subst (λ (l : List ℕ). linkWords (segmentCount A dx dy) ≤ length l) (sym (done .links-are)) (unfold stitchedTables in kept .0)
+
+    -- the answer and the outputs, by the verdict on the outputs
+    module _ (is : outputs ≡ passes) where
+      answer-is : answer ≡ built-is.Rings (ringCount A dx dy)
+      unfolding built
+      answer-is = bare .answers ∙ ap₂ (λ (v w : Verdict). built v w A dx dy) (done .is-passes) is
+
+      points-written : points′ ≡ written (packedPoints (ringsOf A dx dy)) points
+      unfolding outputAfter
+      points-written = bare .points-are ∙ ap₂ (λ (v w : Verdict). outputAfter v w (packedPoints (ringsOf A dx dy)) points) (done .is-passes) is
+
+      directory-written : directory₁ ≡ written (bareRecords 0 0 (ringsOf A dx dy)) directory
+      unfolding outputAfter
+      directory-written = bare .directory-is ∙ ap₂ (λ (v w : Verdict). outputAfter v w (bareRecords 0 0 (ringsOf A dx dy)) directory) (done .is-passes) is
+
+      bare-length : length (bareRecords 0 0 (ringsOf A dx dy)) ≡ 4 * ringCount A dx dy
+      unfolding directoryWords recordStride
+      bare-length = records-fill-their-room A (outside values threshold dx dy (done .sized))
+
+      laid : Laid (ringsOf A dx dy) points′ directory₁
+      unfolding written ringCount recordCount
+      laid = record {
+        past = drop (length (packedPoints (ringsOf A dx dy))) points;
+        points-are = points-written;
+        records-there = omega (arith, ap length directory-written, bare-length, length-append (bareRecords 0 0 (ringsOf A dx dy)) (drop (length (bareRecords 0 0 (ringsOf A dx dy))) directory));
+        counts-are = λ r h. ap (λ (l : List ℕ). getD l (4 * r + 1) 0) directory-written ∙ bare-count 0 0 (ringsOf A dx dy) (drop (length (bareRecords 0 0 (ringsOf A dx dy))) directory) r h;
+      }
+
+      ownable-here : Ownable (built-is.Rings (ringCount A dx dy)) (linkWords (drawing .segments)) links₁ points′ directory₁
+      unfolding Ownable ringCount linkWords
+      ownable-here =
+          let sized = done .sized in
+          let long : linkWords (drawing .segments) ≤ length links₁ = omega (arith, words-are, links-long) in (
+            long,
+            workable laid (rings-drawn values threshold dx dy sized)
+                (omega (arith, fours values threshold dx dy sized, few-segments values threshold dx dy sized))
+                (omega (arith, points-are values threshold dx dy sized, points-fit values threshold dx dy sized))
+                (take (linkWords (drawing .segments)) links₁)
+                (omega (arith, length-take-le (linkWords (drawing .segments)) links₁ long, words-are, fours values threshold dx dy sized)),
+          )
+
+      owned-here : ownedDirectory (built-is.Rings (ringCount A dx dy)) points′ directory₁ ≡ written (contourRecords (ringsOf A dx dy)) directory
+      unfolding ownedDirectory ringCount
+      owned-here =
+          ap (λ (rings : List Line). written (contourRecords rings) directory₁) (rings-are laid)
+          ∙ ap (written (contourRecords (ringsOf A dx dy))) directory-written
+          ∙ written-over (contourRecords (ringsOf A dx dy)) (bareRecords 0 0 (ringsOf A dx dy)) directory (contour-length (ringsOf A dx dy) ∙ sym bare-length)
+
+    module _ (why : Refusal) (is : outputs ≡ refused why) where
+      answer-refused : answer ≡ built-is.Refused why
+      unfolding built
+      answer-refused = bare .answers ∙ ap₂ (λ (v w : Verdict). built v w A dx dy) (done .is-passes) is
+
+      directory-spared : directory₁ ≡ directory
+      unfolding outputAfter
+      directory-spared = bare .directory-is ∙ ap₂ (λ (v w : Verdict). outputAfter v w (bareRecords 0 0 (ringsOf A dx dy)) directory) (done .is-passes) is
+
+    pub ownable : (words : ℕ) → words ≡ linkWords (drawing .segments) → Ownable answer words links₁ points′ directory₁
+    unfolding Ownable
+    ownable words need = subst (λ (n : ℕ). Ownable answer n links₁ points′ directory₁) (sym need) (by outputs refl)
+      where
+        by : (v : Verdict) → outputs ≡ v → Ownable answer (linkWords (drawing .segments)) links₁ points′ directory₁
+        by passes e = subst (λ (a : Built). Ownable a (linkWords (drawing .segments)) links₁ points′ directory₁) (sym (answer-is e)) (ownable-here e)
+        by (refused why) e = subst (λ (a : Built). Ownable a (linkWords (drawing .segments)) links₁ points′ directory₁) (sym (answer-refused why e)) tt
+
+    directory-owned : ownedDirectory answer points′ directory₁ ≡ outputAfter passes outputs (contourRecords (ringsOf A dx dy)) directory
+    unfolding ownedDirectory outputAfter
+    directory-owned = by outputs refl
+      where
+        by : (v : Verdict) → outputs ≡ v → ownedDirectory answer points′ directory₁ ≡ outputAfter passes outputs (contourRecords (ringsOf A dx dy)) directory
+        by passes e =
+            ap (λ (a : Built). ownedDirectory a points′ directory₁) (answer-is e) ∙ owned-here e
+            ∙ sym (ap (λ (v : Verdict). outputAfter passes v (contourRecords (ringsOf A dx dy)) directory) e)
+        by (refused why) e =
+            ap (λ (a : Built). ownedDirectory a points′ directory₁) (answer-refused why e) ∙ directory-spared why e
+            ∙ sym (ap (λ (v : Verdict). outputAfter passes v (contourRecords (ringsOf A dx dy)) directory) e)
+
+    pub contours-done : (words : ℕ) → words ≡ linkWords (drawing .segments) → (links₂ directory′ : List ℕ) → OwnersFound answer words links₁ links₂ points′ directory₁ directory′
+        → (lines′ links′ : List ℕ) → lines′ ≡ cleared lines₁ (openWords dx (drawing .peak)) → links′ ≡ cleared links₂ words
+        → ContoursBuilt values threshold dx dy lines links points directory answer lines′ links′ points′ directory′
+    contours-done words need links₂ directory′ found lines′ links′ lines-cleared links-cleared = record {
+      answers = bare .answers;
+      lines-are = lines-cleared ∙ bare .lines-are;
+      links-are =
+          links-cleared ∙ cleared-same words links₁ links₂ (found .as-long) (found .past-stays)
+          ∙ ap (cleared links₁) need ∙ bare .links-are;
+      points-are = bare .points-are;
+      directory-is =
+          found .directory-is ∙ directory-owned
+          ∙ ap (λ (v : Verdict). outputAfter v outputs (contourRecords (ringsOf A dx dy)) directory) (sym (done .is-passes));
+    }

@@ -1,0 +1,5 @@
+-- Laws behind the builds of contours and isobands.
+pub mod Laid
+pub mod Sizes
+pub mod Owning
+pub mod Contoured

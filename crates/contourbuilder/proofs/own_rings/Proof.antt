@@ -1,0 +1,68 @@
+-- `contourbuilder::own_rings` meets its contract: the part of the link table that is lent is as long as asked, and what lies past it stays. Assumes nothing.
+use mathlib.Core.Path.{sym, _∙_}
+use borrow.Author.Needs.{needs}
+use native.Mathlib.Omega.{arith}
+use lib.Seq.{length-take-le}
+use Rattle.contourbuilder.proofs.Owning.{ownable-rings, none-written, owners-written}
+use Rattle.contourbuilder.proofs.own_rings.Statement.{statement}
+use Rattle.contourbuilder.proofs.own_rings.Tie as tie
+use Rattle.contourbuilder.proofs.own_rings.Reads as reads
+use Rattle.contourbuilder.proofs.own_rings.Lts as lts
+
+enum-known-answer : tie.Need-enum-known-answer
+enum-known-answer c = search needs
+
+cast-own-contour : tie.Need-cast-own-contour
+cast-own-contour c =
+    let start = c .before .before .before .before .before .before .before in
+    omega (arith, ownable-rings (c .before .before .answer .given .1) _ _ _ _ (start .pre) .1 .countable .few)
+
+slice-relend-prefix-own-contour : tie.Need-slice-relend-prefix-own-contour
+slice-relend-prefix-own-contour c =
+    let start = c .before .before .before .before .before .before .before in
+    ownable-rings (c .before .before .answer .given .1) _ _ _ _ (start .pre) .0
+
+slice-aggregate-own-contour : tie.Need-slice-aggregate-own-contour
+slice-aggregate-own-contour c =
+    let start = c .before .before .before .before .before .before .before .before in
+    sym (length-take-le _ _ (ownable-rings (c .before .before .before .answer .given .1) _ _ _ _ (start .pre) .0))
+
+own-contour-requires : tie.Need-own-contour-requires
+own-contour-requires c κs =
+    let start = c .before .before .before .before .before .before .before .before in
+    ownable-rings (c .before .before .before .answer .given .1) _ _ _ _ (start .pre) .1
+
+enum-told : tie.Need-enum-told
+enum-told c = search needs
+
+same-length : tie.Need-same-length
+same-length c = search needs
+
+same-length-2 : tie.Need-same-length-2
+same-length-2 c = search needs
+
+returns : tie.Need-returns
+returns c =
+    let start = c .before .before .before .before .before .before .before .before .before .before .before .before .before in
+    let told = c .before .before .before .before .before .before .before .before .answer .given .1 in
+    let fits = ownable-rings told _ _ _ _ (start .pre) .0 in
+    let called = c .before .before .before .before .own-contour in
+    owners-written told _ _ (called .last .1 .1 .1 .0) _ _ _ fits (called .kept .1 .1 .1 .0 ∙ length-take-le _ _ fits) (called .ensures)
+
+returns-2 : tie.Need-returns-2
+returns-2 c = none-written (c .enum-told .given .1) _ _ _ _
+
+pub own-rings-spec : {M : Type 1} → statement M
+own-rings-spec =
+    tie.close
+    (tie.spec
+    enum-known-answer
+    cast-own-contour
+    slice-relend-prefix-own-contour
+    slice-aggregate-own-contour
+    own-contour-requires
+    enum-told
+    same-length
+    same-length-2
+    returns
+    returns-2)

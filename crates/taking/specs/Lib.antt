@@ -1,0 +1,3 @@
+-- What points are answered, stretches of a ring's pairs, and what a ladder passes over of them.
+pub mod Places
+pub mod Stretches
