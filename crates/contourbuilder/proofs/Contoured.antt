@@ -1,9 +1,9 @@
 -- From the pass, the packing and the owners to the contract of contours: what contour_rings leaves, with the records' classes and owners in place of bare ones.
 -- Assumes nothing.
 use mathlib.Core.Path.{_≡_, refl, sym, _∙_, ap, ap₂, subst}
-use mathlib.Core.Bool.{Bool}
-use mathlib.Core.List.{List, [], _∷_, _++_, map}
-use Prim.Native.Nat.{ℕ, suc, min, _+_, _*_, _^_, _≤_, _<_}
+use mathlib.Core.Bool.{false}
+use mathlib.Core.List.{List, _++_}
+use Prim.Native.Nat.{ℕ, min, _+_, _*_, _≤_}
 use native.Mathlib.Omega.{arith}
 use lib.Ieee.{Float}
 use lib.ListN.{length, getD, take, drop, replicate, length-append}
@@ -13,10 +13,8 @@ use Rattle.scope.specs.Limits.{recordStride}
 use Rattle.scope.specs.Terrain.{Sheet, atLeast, terrain}
 use Rattle.scope.specs.Stitching.{Line}
 use Rattle.scope.specs.Drawing.{segmentCount, ringCount, ringsOf, peak}
-use Rattle.scope.specs.Contour.{Fate, contourFates, contourClasses, fatesBy}
-use Rattle.scope.specs.Band.{Numbered, numberedFrom}
 use Rattle.scope.specs.Room.{openWords, linkWords, directoryWords}
-use Rattle.scope.specs.Tables.{written, packedPoints, bareRecords, recordOf, orderedRecords, contourRecords}
+use Rattle.scope.specs.Tables.{written, packedPoints, bareRecords, contourRecords}
 use Rattle.machine.proofs.Built.{links-kept, records-fill-their-room}
 use Rattle.packing.specs.Cleared.{cleared}
 use Rattle.extents.specs.Records.{recordCount}
@@ -31,40 +29,12 @@ use Rattle.isoringbuilder.specs.declared.Built.{Built}
 use Rattle.isoringbuilder.specs.declared.Built.the-variants as built-is
 use Rattle.isoringbuilder.proofs.Limits.{outside, segments-fit, peak-fits, points-fit}
 use Rattle.isoringbuilder.proofs.Laws.{Done, refused-facts, rings-refused, built-done}
-use Rattle.contourbuilder.specs.Contours.{ContoursBuilt, Ownable, ownedDirectory, OwnersFound}
+use Rattle.contourbuilder.specs.Contours.{ContoursBuilt}
+use Rattle.contourbuilder.specs.Owning.{recordsOf, Ownable, ownedDirectory, OwnersFound}
 use Rattle.contourbuilder.proofs.Laid.{Laid, rings-are, workable}
-use Rattle.contourbuilder.proofs.Sizes.{bare-count, fours, few-segments, rings-drawn, points-are}
-
--- a fate for each ring, and a record for each fate
-fates-length : (classes : List Bool) (all : List Line) (cs : List Bool) (rings : List Line) → length cs ≡ length rings → length (fatesBy classes all cs rings) ≡ length rings
-unfolding fatesBy
-fates-length classes all [] [] e = refl
-fates-length classes all [] (ring ∷ rings) e = absurd (omega arith)
-fates-length classes all (c ∷ cs) [] e = absurd (omega arith)
-fates-length classes all (c ∷ cs) (ring ∷ rings) e = ap suc (fates-length classes all cs rings (omega arith))
-
-pub records-length : (all : List Line) (k : ℕ) (order : List Numbered) (fates : List Fate) → length fates ≡ length order → length (orderedRecords all k order fates) ≡ 4 * length order
-unfolding orderedRecords recordOf
-records-length all k [] fates e = refl
-records-length all k (n ∷ ns) [] e = absurd (omega arith)
-records-length all k (n ∷ ns) (fate ∷ fates) e = omega (arith, records-length all (suc k) ns fates (omega arith))
-
-numbered-length : (k : ℕ) (rings : List Line) → length (numberedFrom k rings) ≡ length rings
-unfolding numberedFrom
-numbered-length k [] = refl
-numbered-length k (ring ∷ rings) = ap suc (numbered-length (suc k) rings)
-
-classes-length : (rings : List Line) → length (contourClasses rings) ≡ length rings
-unfolding contourClasses
-classes-length [] = refl
-classes-length (ring ∷ rings) = ap suc (classes-length rings)
-
-pub contour-length : (rings : List Line) → length (contourRecords rings) ≡ 4 * length rings
-unfolding contourRecords contourFates
-contour-length rings =
-    records-length rings 0 (numberedFrom 0 rings) (contourFates rings)
-    (unfold contourFates in fates-length (contourClasses rings) rings (contourClasses rings) rings (classes-length rings) ∙ sym (numbered-length 0 rings))
-    ∙ ap (λ (n : ℕ). 4 * n) (numbered-length 0 rings)
+use Rattle.contourbuilder.proofs.Lengths.{contour-length}
+use Rattle.contourbuilder.proofs.Sizes.{bare-count, fours, rings-drawn, points-are}
+use Rattle.bands.proofs.Stitched.{few-segments}
 
 -- words written over words that are as many
 pub written-over : (new old table : List ℕ) → length new ≡ length old → written new (written old table) ≡ written new table
@@ -152,8 +122,8 @@ module _ (values : List Float) (threshold : Float) (dx dy : ℕ) (lines links : 
                 (omega (arith, length-take-le (linkWords (drawing .segments)) links₁ long, words-are, fours values threshold dx dy sized)),
           )
 
-      owned-here : ownedDirectory (built-is.Rings (ringCount A dx dy)) points′ directory₁ ≡ written (contourRecords (ringsOf A dx dy)) directory
-      unfolding ownedDirectory ringCount
+      owned-here : ownedDirectory false (built-is.Rings (ringCount A dx dy)) points′ directory₁ ≡ written (contourRecords (ringsOf A dx dy)) directory
+      unfolding ownedDirectory recordsOf ringCount
       owned-here =
           ap (λ (rings : List Line). written (contourRecords rings) directory₁) (rings-are laid)
           ∙ ap (written (contourRecords (ringsOf A dx dy))) directory-written
@@ -176,19 +146,19 @@ module _ (values : List Float) (threshold : Float) (dx dy : ℕ) (lines links : 
         by passes e = subst (λ (a : Built). Ownable a (linkWords (drawing .segments)) links₁ points′ directory₁) (sym (answer-is e)) (ownable-here e)
         by (refused why) e = subst (λ (a : Built). Ownable a (linkWords (drawing .segments)) links₁ points′ directory₁) (sym (answer-refused why e)) tt
 
-    directory-owned : ownedDirectory answer points′ directory₁ ≡ outputAfter passes outputs (contourRecords (ringsOf A dx dy)) directory
+    directory-owned : ownedDirectory false answer points′ directory₁ ≡ outputAfter passes outputs (contourRecords (ringsOf A dx dy)) directory
     unfolding ownedDirectory outputAfter
     directory-owned = by outputs refl
       where
-        by : (v : Verdict) → outputs ≡ v → ownedDirectory answer points′ directory₁ ≡ outputAfter passes outputs (contourRecords (ringsOf A dx dy)) directory
+        by : (v : Verdict) → outputs ≡ v → ownedDirectory false answer points′ directory₁ ≡ outputAfter passes outputs (contourRecords (ringsOf A dx dy)) directory
         by passes e =
-            ap (λ (a : Built). ownedDirectory a points′ directory₁) (answer-is e) ∙ owned-here e
+            ap (λ (a : Built). ownedDirectory false a points′ directory₁) (answer-is e) ∙ owned-here e
             ∙ sym (ap (λ (v : Verdict). outputAfter passes v (contourRecords (ringsOf A dx dy)) directory) e)
         by (refused why) e =
-            ap (λ (a : Built). ownedDirectory a points′ directory₁) (answer-refused why e) ∙ directory-spared why e
+            ap (λ (a : Built). ownedDirectory false a points′ directory₁) (answer-refused why e) ∙ directory-spared why e
             ∙ sym (ap (λ (v : Verdict). outputAfter passes v (contourRecords (ringsOf A dx dy)) directory) e)
 
-    pub contours-done : (words : ℕ) → words ≡ linkWords (drawing .segments) → (links₂ directory′ : List ℕ) → OwnersFound answer words links₁ links₂ points′ directory₁ directory′
+    pub contours-done : (words : ℕ) → words ≡ linkWords (drawing .segments) → (links₂ directory′ : List ℕ) → OwnersFound false answer words links₁ links₂ points′ directory₁ directory′
         → (lines′ links′ : List ℕ) → lines′ ≡ cleared lines₁ (openWords dx (drawing .peak)) → links′ ≡ cleared links₂ words
         → ContoursBuilt values threshold dx dy lines links points directory answer lines′ links′ points′ directory′
     contours-done words need links₂ directory′ found lines′ links′ lines-cleared links-cleared = record {

@@ -72,10 +72,6 @@ module _ (values : List Float) (threshold : Float) (dx dy : ℕ) (sized : Sized 
   unfolding ringCount
   fours = omega (arith, fives dx dy (ringsOf A dx dy) laws, points-are)
 
-  pub few-segments : segmentCount (terrain (atLeast threshold) values dx dy) dx dy ≤ 2 ^ 26
-  unfolding segmentCount segmentsOf sideLimit
-  few-segments = omega (arith, segments-are-few A (outside values threshold dx dy sized) sideLimit dy (suc dx) (sized .columns) (sized .rows) (omega arith))
-
   few-points : total length (ringsOf A dx dy) ≤ pointLimit
   unfolding segmentCount segmentsOf sideLimit pointLimit
   few-points = omega (arith, points-are, fours, segments-are-few A (outside values threshold dx dy sized) sideLimit dy (suc dx) (sized .columns) (sized .rows) (omega arith))

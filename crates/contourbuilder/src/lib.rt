@@ -1,4 +1,10 @@
 // Contours and isobands of a grid, over tables that the caller lends: every ring with its class and its owner, or none. Neither asks anything of the caller.
+use bands::BandFit;
+use bands::BandPass;
+use bands::band_pack;
+use bands::band_pair;
+use bands::band_pass;
+use bands::larger;
 use cells::Level;
 use isoringbuilder::Built;
 use isoringbuilder::Pass;
@@ -7,16 +13,47 @@ use isoringbuilder::open_words;
 use isoringbuilder::pack;
 use isoringbuilder::run_pass;
 use packing::clear;
+use regions::own_band;
 use regions::own_contour;
-ghost use Rattle.contourbuilder.specs.Contours.{OwnersFound, Ownable, ContoursBuilt};
+use scan::GridFit;
+use scan::TILES;
+ghost use mathlib.Core.Path.{_≡_};
+ghost use lib.ListN.{length};
+ghost use Rattle.scope.specs.Terrain.{atLeast, terrain};
+ghost use Rattle.scope.specs.Tables.{written};
+ghost use Rattle.scan.specs.Grid.{gridFit};
+ghost use Rattle.bands.specs.Bands.{BuiltOver, BandBuilt};
+ghost use Rattle.regions.specs.Regions.{countedRings, Workable};
+ghost use Rattle.contourbuilder.specs.Contours.{ContoursBuilt};
+ghost use Rattle.contourbuilder.specs.Owning.{recordsOf, Ownable, OwnersFound};
 
-// The classes and owners of the rings that were written, where any were. The first `words` words of the link table are worked in.
-fn own_rings(answer: Built, words: usize, links: &mut [u32], points: &[u16], directory: &mut [u32])
+// The records of `n` rings: those of a band, in its sorted order, or those of a contour.
+fn own_either(band: bool, points: &[u16], directory: &mut [u32], n: usize, scratch: &mut [u32])
+    requires { ⌜ Workable (now points) (now directory) (now scratch) n ⌝ }
+    ensures { λ _. ⌜ now (directory .exit) ≡ written (recordsOf band (countedRings (now (points .entry)) (now (directory .entry)) 0 n)) (now (directory .entry)) ⌝ }
+{
+    if band {
+        own_band(points, directory, n, scratch);
+    } else {
+        own_contour(points, directory, n, scratch);
+    }
+}
+
+// The classes and owners of the rings that were written, where any were. The first `words` words of the
+// link table are worked in.
+fn own_rings(
+    answer: Built,
+    band: bool,
+    words: usize,
+    links: &mut [u32],
+    points: &[u16],
+    directory: &mut [u32],
+)
     requires { ⌜ Ownable answer words (now links) (now points) (now directory) ⌝ }
-    ensures { λ _. ⌜ OwnersFound answer words (now (links .entry)) (now (links .exit)) (now (points .entry)) (now (directory .entry)) (now (directory .exit)) ⌝ }
+    ensures { λ _. ⌜ OwnersFound band answer words (now (links .entry)) (now (links .exit)) (now (points .entry)) (now (directory .entry)) (now (directory .exit)) ⌝ }
 {
     if let Built::Rings(rings) = answer {
-        own_contour(points, directory, rings as usize, &mut links[..words]);
+        own_either(band, points, directory, rings as usize, &mut links[..words]);
     }
 }
 
@@ -42,10 +79,86 @@ pub fn contours(
             let peak = drawing.peak;
             let segments = drawing.segments;
             let words = link_words(segments);
-            own_rings(answer, words, links, points, directory);
+            own_rings(answer, false, words, links, points, directory);
             clear(lines, open_words(dx, peak));
             clear(links, words);
             answer
         }
+    }
+}
+
+// The band between two levels, for a grid that fits.
+fn band_over(
+    values: &[f64],
+    lower: Level,
+    upper: Level,
+    dx: usize,
+    dy: usize,
+    lines: &mut [u32],
+    links: &mut [u32],
+    points: &mut [u16],
+    directory: &mut [u32],
+) -> Built
+    requires { ⌜ gridFit (length (now values)) dx dy ≡ GridFit.Fits ⌝ }
+    ensures { λ r. ⌜ BuiltOver GridFit.Fits (terrain (atLeast (lower .threshold)) (now (values .entry)) dx dy) (terrain (atLeast (upper .threshold)) (now (values .entry)) dx dy) dx dy
+        (now (lines .entry)) (now (links .entry)) (now (points .entry)) (now (directory .entry)) r
+        (now (lines .exit)) (now (links .exit)) (now (points .exit)) (now (directory .exit)) ⌝ }
+{
+    let mut marks = [0u8; TILES];
+    match band_pass(values, lower, upper, dx, dy, &mut marks, lines, links) {
+        BandPass::Refused(refusal) => Built::Refused(refusal),
+        BandPass::Done(drawing) => {
+            let answer = band_pack(
+                drawing,
+                values,
+                lower,
+                dx,
+                dy,
+                &marks,
+                lines,
+                links,
+                points,
+                directory,
+            );
+            let peak = drawing.peak;
+            let words = link_words(larger(drawing.lower_segments, drawing.upper_segments));
+            own_rings(answer, true, words, links, points, directory);
+            clear(lines, open_words(dx, peak));
+            clear(links, words);
+            answer
+        }
+    }
+}
+
+// The band of the thresholds k and k + 1 of a list: the points of the lower set's rings, then of the upper's, each by ring number, and a directory record a ring
+// in the band's sorted order, with class and owner. On success, and where points or directory are short, the needed words of both work tables are zero; any
+// refusal spares the outputs.
+pub fn isobands(
+    values: &[f64],
+    thresholds: &[f64],
+    k: usize,
+    dx: usize,
+    dy: usize,
+    lines: &mut [u32],
+    links: &mut [u32],
+    points: &mut [u16],
+    directory: &mut [u32],
+) -> Built
+    ensures { λ r. ⌜ BandBuilt (now (values .entry)) (now (thresholds .entry)) k dx dy (now (lines .entry)) (now (links .entry)) (now (points .entry)) (now (directory .entry)) r
+        (now (lines .exit)) (now (links .exit)) (now (points .exit)) (now (directory .exit)) ⌝ }
+{
+    match band_pair(values.len(), dx, dy, thresholds, k) {
+        BandFit::Refused(refusal) => Built::Refused(refusal),
+        BandFit::Fits(lower, upper) => band_over(
+            values,
+            lower,
+            upper,
+            dx,
+            dy,
+            lines,
+            links,
+            points,
+            directory,
+        ),
     }
 }

@@ -12,23 +12,23 @@ use Rattle.contourbuilder.proofs.own_rings.Lts as lts
 enum-known-answer : tie.Need-enum-known-answer
 enum-known-answer c = search needs
 
-cast-own-contour : tie.Need-cast-own-contour
-cast-own-contour c =
+cast-own-either : tie.Need-cast-own-either
+cast-own-either c =
     let start = c .before .before .before .before .before .before .before in
     omega (arith, ownable-rings (c .before .before .answer .given .1) _ _ _ _ (start .pre) .1 .countable .few)
 
-slice-relend-prefix-own-contour : tie.Need-slice-relend-prefix-own-contour
-slice-relend-prefix-own-contour c =
+slice-relend-prefix-own-either : tie.Need-slice-relend-prefix-own-either
+slice-relend-prefix-own-either c =
     let start = c .before .before .before .before .before .before .before in
     ownable-rings (c .before .before .answer .given .1) _ _ _ _ (start .pre) .0
 
-slice-aggregate-own-contour : tie.Need-slice-aggregate-own-contour
-slice-aggregate-own-contour c =
+slice-aggregate-own-either : tie.Need-slice-aggregate-own-either
+slice-aggregate-own-either c =
     let start = c .before .before .before .before .before .before .before .before in
     sym (length-take-le _ _ (ownable-rings (c .before .before .before .answer .given .1) _ _ _ _ (start .pre) .0))
 
-own-contour-requires : tie.Need-own-contour-requires
-own-contour-requires c κs =
+own-either-requires : tie.Need-own-either-requires
+own-either-requires c κs =
     let start = c .before .before .before .before .before .before .before .before in
     ownable-rings (c .before .before .before .answer .given .1) _ _ _ _ (start .pre) .1
 
@@ -46,21 +46,21 @@ returns c =
     let start = c .before .before .before .before .before .before .before .before .before .before .before .before .before in
     let told = c .before .before .before .before .before .before .before .before .answer .given .1 in
     let fits = ownable-rings told _ _ _ _ (start .pre) .0 in
-    let called = c .before .before .before .before .own-contour in
-    owners-written told _ _ (called .last .1 .1 .1 .0) _ _ _ fits (called .kept .1 .1 .1 .0 ∙ length-take-le _ _ fits) (called .ensures)
+    let called = c .before .before .before .before .own-either in
+    owners-written told _ _ _ (called .last .1 .1 .1 .1 .0) _ _ _ fits (called .kept .1 .1 .1 .1 .0 ∙ length-take-le _ _ fits) (called .ensures)
 
 returns-2 : tie.Need-returns-2
-returns-2 c = none-written (c .enum-told .given .1) _ _ _ _
+returns-2 c = none-written (c .enum-told .given .1) _ _ _ _ _
 
 pub own-rings-spec : {M : Type 1} → statement M
 own-rings-spec =
     tie.close
     (tie.spec
     enum-known-answer
-    cast-own-contour
-    slice-relend-prefix-own-contour
-    slice-aggregate-own-contour
-    own-contour-requires
+    cast-own-either
+    slice-relend-prefix-own-either
+    slice-aggregate-own-either
+    own-either-requires
     enum-told
     same-length
     same-length-2

@@ -1,0 +1,79 @@
+-- How many words the points and the records of a contour and of a band are. By induction on the rings. Assumes nothing.
+use mathlib.Core.Path.{_≡_, refl, sym, _∙_, ap}
+use mathlib.Core.Bool.{Bool, true, false, cond}
+use mathlib.Core.List.{List, [], _∷_, _++_, append-assoc}
+use Prim.Native.Nat.{ℕ, suc, _+_, _*_}
+use native.Mathlib.Omega.{arith}
+use lib.Dec.{leb}
+use lib.ListN.{length, length-append}
+use Rattle.scope.specs.Stitching.{Line}
+use Rattle.scope.specs.Contour.{Fate, contourFates, contourClasses, fatesBy}
+use Rattle.scope.specs.Band.{sortKey, Numbered, numberedFrom, insert, sorted, bandOrder, orderRings, classesFrom, bandFates}
+use Rattle.scope.specs.Tables.{ringWords, packedPoints, recordOf, orderedRecords, contourRecords, bandRecords}
+
+pub packed-both : (lower upper : List Line) → packedPoints (lower ++ upper) ≡ packedPoints lower ++ packedPoints upper
+unfolding packedPoints
+packed-both [] upper = refl
+packed-both (ring ∷ lower) upper = ap (λ (l : List ℕ). ringWords ring ++ l) (packed-both lower upper) ∙ sym (append-assoc (ringWords ring) (packedPoints lower) (packedPoints upper))
+
+inserted-length : (m : Numbered) (ns : List Numbered) → length (insert m ns) ≡ suc (length ns)
+unfolding insert
+inserted-length m [] = refl
+inserted-length m (n ∷ ns) = by (leb (sortKey (m .ring)) (sortKey (n .ring))) (inserted-length m ns)
+  where
+    by : (b : Bool) → length (insert m ns) ≡ suc (length ns) → length (cond b (m ∷ n ∷ ns) (n ∷ insert m ns)) ≡ suc (suc (length ns))
+    by true e = refl
+    by false e = ap suc e
+
+sorted-length : (ns : List Numbered) → length (sorted ns) ≡ length ns
+unfolding sorted
+sorted-length [] = refl
+sorted-length (n ∷ ns) = inserted-length n (sorted ns) ∙ ap suc (sorted-length ns)
+
+numbered-length : (k : ℕ) (rings : List Line) → length (numberedFrom k rings) ≡ length rings
+unfolding numberedFrom
+numbered-length k [] = refl
+numbered-length k (ring ∷ rings) = ap suc (numbered-length (suc k) rings)
+
+rings-length : (order : List Numbered) → length (orderRings order) ≡ length order
+unfolding orderRings
+rings-length [] = refl
+rings-length (n ∷ ns) = ap suc (rings-length ns)
+
+classes-length : (i : ℕ) (all rings : List Line) → length (classesFrom i all rings) ≡ length rings
+unfolding classesFrom
+classes-length i all [] = refl
+classes-length i all (ring ∷ rings) = ap suc (classes-length (suc i) all rings)
+
+fates-length : (classes : List Bool) (all : List Line) (cs : List Bool) (rings : List Line) → length cs ≡ length rings → length (fatesBy classes all cs rings) ≡ length rings
+unfolding fatesBy
+fates-length classes all [] [] e = refl
+fates-length classes all [] (ring ∷ rings) e = absurd (omega arith)
+fates-length classes all (c ∷ cs) [] e = absurd (omega arith)
+fates-length classes all (c ∷ cs) (ring ∷ rings) e = ap suc (fates-length classes all cs rings (omega arith))
+
+pub records-length : (all : List Line) (k : ℕ) (order : List Numbered) (fates : List Fate) → length fates ≡ length order → length (orderedRecords all k order fates) ≡ 4 * length order
+unfolding orderedRecords recordOf
+records-length all k [] fates e = refl
+records-length all k (n ∷ ns) [] e = absurd (omega arith)
+records-length all k (n ∷ ns) (fate ∷ fates) e = omega (arith, records-length all (suc k) ns fates (omega arith))
+
+classes-counted : (rings : List Line) → length (contourClasses rings) ≡ length rings
+unfolding contourClasses
+classes-counted [] = refl
+classes-counted (ring ∷ rings) = ap suc (classes-counted rings)
+
+pub contour-length : (rings : List Line) → length (contourRecords rings) ≡ 4 * length rings
+unfolding contourRecords contourFates
+contour-length rings =
+    records-length rings 0 (numberedFrom 0 rings) (contourFates rings)
+    (unfold contourFates in fates-length (contourClasses rings) rings (contourClasses rings) rings (classes-counted rings) ∙ sym (numbered-length 0 rings))
+    ∙ ap (λ (n : ℕ). 4 * n) (numbered-length 0 rings)
+
+pub band-length : (lower upper : List Line) → length (bandRecords lower upper) ≡ 4 * (length lower + length upper)
+unfolding bandRecords bandOrder bandFates
+band-length lower upper =
+    let order = sorted (numberedFrom 0 (lower ++ upper)) in
+    let rings = orderRings order in
+    let fates : length (bandFates rings) ≡ length order = fates-length (classesFrom 0 rings rings) rings (classesFrom 0 rings rings) rings (classes-length 0 rings rings) ∙ rings-length order in
+    omega (arith, records-length (lower ++ upper) 0 order (bandFates rings) fates, sorted-length (numberedFrom 0 (lower ++ upper)), numbered-length 0 (lower ++ upper), length-append lower upper)

@@ -1,0 +1,31 @@
+-- The step over points and counts already written: what it asks where rings were written, and what it leaves. Assumes nothing.
+use mathlib.Core.Path.{_≡_}
+use mathlib.Core.Bool.{Bool, cond}
+use mathlib.Core.List.{List}
+use Prim.Native.Nat.{ℕ, _≤_}
+use lib.ListN.{length, take, drop}
+use Rattle.scope.specs.Stitching.{Line}
+use Rattle.scope.specs.Tables.{written, contourRecords}
+use Rattle.isoringbuilder.specs.declared.Built.{Built}
+use Rattle.isoringbuilder.specs.declared.Built.the-variants as built-is
+use Rattle.regions.specs.Regions.{countedRings, sortedRecords, Workable}
+
+-- a band's records, or a contour's
+unfoldable pub recordsOf : Bool → List Line → List ℕ
+recordsOf band rings = cond band (sortedRecords rings) (contourRecords rings)
+
+-- rings that were written can be worked on in the first words of the link table
+unfoldable pub Ownable : Built → ℕ → List ℕ → List ℕ → List ℕ → Type 0
+Ownable (built-is.Refused why) words links points directory = Unit {0}
+Ownable (built-is.Rings rings) words links points directory = (words ≤ length links) × Workable points directory (take words links) rings
+
+-- the directory once the owners of rings that were written are found
+unfoldable pub ownedDirectory : Bool → Built → List ℕ → List ℕ → List ℕ
+ownedDirectory band (built-is.Refused why) points directory = directory
+ownedDirectory band (built-is.Rings rings) points directory = written (recordsOf band (countedRings points directory 0 rings)) directory
+
+-- the words past those that were worked in are as they were
+pub record OwnersFound (band : Bool) (answer : Built) (words : ℕ) (links links′ points directory directory′ : List ℕ) : Type 0 where
+  pub directory-is : directory′ ≡ ownedDirectory band answer points directory
+  pub as-long : length links′ ≡ length links
+  pub past-stays : drop words links′ ≡ drop words links
