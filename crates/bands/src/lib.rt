@@ -73,13 +73,13 @@ pub fn band_pair(count: usize, dx: usize, dy: usize, thresholds: &[f64], k: usiz
     match band_fit(count, dx, dy, thresholds.len(), k) {
         GridFit::Refused(refusal) => BandFit::Refused(refusal),
         GridFit::Fits => {
-            let lower = Level {
+            let below = Level {
                 threshold: thresholds[k],
             };
-            let upper = Level {
+            let above = Level {
                 threshold: thresholds[k + 1],
             };
-            BandFit::Fits(lower, upper)
+            BandFit::Fits(below, above)
         }
     }
 }

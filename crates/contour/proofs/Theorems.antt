@@ -1,163 +1,182 @@
--- What the contracts of the public face come to: one result on each entry, refusals given exactly where a
--- table is short, exact room filled to the last word, and the peak in the reports. Assumes nothing.
-use mathlib.Core.Path.{_≡_, refl, sym, _∙_, ap, subst}
-use mathlib.Core.Bool.{Bool, true, false, cond}
-use mathlib.Core.List.{List, _++_, append-nil}
-use Prim.Native.Nat.{ℕ, suc, _+_, _*_, _/_, _≤_, _<_}
+-- What the contracts of the public face come to at one threshold: one result on each entry, each refusal exactly where it is the lowest that applies, exact room
+-- filled to the last word, and the peak in the reports. The contracts are read as what a call over lent tables needs, answers and leaves. Assumes nothing.
+use mathlib.Core.Path.{_≡_, refl, sym, _∙_, subst}
+use mathlib.Core.Logic.{_↔_}
+use mathlib.Core.List.{List}
+use Prim.Native.Nat.{ℕ, suc, _+_, _*_, _/_, _≤_}
 use native.Mathlib.Omega.{arith}
-use lib.Dec.{ltb}
 use lib.Ieee.{Float}
-use lib.ListN.{length, drop, replicate, drop-of-length-le}
-use borrow.Author.Tests.{lt-ltb, le-ltb, ltb-true, ltb-false}
+use lib.ListN.{length}
 use Rattle.error.specs.declared.Refusal.{Refusal}
-use Rattle.error.specs.declared.Refusal.the-variants.{OpenShort, LinksShort, PointsShort, DirectoryShort}
+use Rattle.error.specs.declared.Refusal.the-variants.{BadSide, BadDimension}
+use Rattle.scope.specs.Limits.{recordStride}
 use Rattle.scope.specs.Terrain.{Sheet, atLeast, terrain}
 use Rattle.scope.specs.Drawing.{segmentCount, ringCount, ringsOf, peak}
 use Rattle.scope.specs.Pairs.{sharedPairs}
-use Rattle.scope.specs.Room.{openWords, linkWords, pointWords, directoryWords}
-use Rattle.scope.specs.Tables.{zeroed, written, packedPoints, bareRecords}
+use Rattle.scope.specs.Room.{openWords, linkWords, pointCount, pointWords, directoryWords}
+use Rattle.scope.specs.Tables.{packedPoints, bareRecords, contourRecords}
 use Rattle.laws.proofs.Edges.{Outside}
 use Rattle.laws.proofs.Laws.{the-peak-is-low, the-peak-is-highest, the-peak-is-reached}
 use Rattle.machine.proofs.Built.{packed-points-fill-their-room, records-fill-their-room}
-use Rattle.scan.specs.Grid.{gridFit}
+use Rattle.scan.specs.Grid.{badSide, badCount, gridFit}
 use Rattle.scan.specs.Report.{roomOf, reportFor, firstReport}
 use Rattle.scan.specs.declared.GridFit.{GridFit}
 use Rattle.scan.specs.declared.GridFit.the-variants as fit-is
 use Rattle.scan.specs.declared.FirstReport.the-variants as first-is
 use Rattle.scan.proofs.Samples.{terrain-outside}
-use Rattle.isoringbuilder.specs.Verdict.{Verdict, refused, passes, afterGrid, workVerdict, roomVerdict, outputVerdict}
-use Rattle.isoringbuilder.specs.Answers.{workAfter, outputAfter, reported, built, SecondReported, RingsBuilt}
+use Rattle.isoringbuilder.specs.Verdict.{Verdict, refused, passes, workVerdict, roomVerdict, outputVerdict}
+use Rattle.isoringbuilder.specs.Answers.{workAfter, outputAfter, reported, built, above, onEntry, onOutputs, SecondReported, RingsBuilt}
 use Rattle.isoringbuilder.specs.declared.SecondReport.{SecondReport}
 use Rattle.isoringbuilder.specs.declared.SecondReport.the-variants as second-is
 use Rattle.isoringbuilder.specs.declared.Built.{Built}
 use Rattle.isoringbuilder.specs.declared.Built.the-variants as built-is
-
--- ---- 1. one result
+use Rattle.contourbuilder.specs.Contours.{ContoursBuilt}
+use Rattle.contourbuilder.proofs.Lengths.{contour-length}
+use Rattle.contour.proofs.Lowest.{of-three, Early, fit-number, Answers, by-one, by-two, ReportExact}
+use Rattle.contour.proofs.Results.{Worked, Plan, Constructed, one-worked, one-construction, Exact, worked-exact, constructed-exact, JustRoom, Filled, fills}
 
 -- the first report, area and contains answer what a definition gives for the entry: two such answers are equal
 pub one-answer : {Answer : Type 0} {given p q : Answer} → p ≡ given → q ≡ given → p ≡ q
 one-answer a b = a ∙ sym b
 
+-- a grid is refused with number 1 or 2
+pub grid-early : (count dx dy most : ℕ) → 2 ≤ most → Early most (gridFit count dx dy)
+unfolding gridFit
+grid-early count dx dy most h =
+    of-three (Early most) (fit-is.Refused BadSide) (fit-is.Refused BadDimension) fit-is.Fits
+    (λ why e. omega (arith, fit-number BadSide why e))
+    (λ why e. omega (arith, fit-number BadDimension why e))
+    (λ why e. absurd (let z : _≡_ {A = ℕ} 0 1 = cc in omega arith))
+    (badSide dx dy) (badCount count dx dy)
+
+-- ---- 1. the first report
+
+-- a first report refuses as the fit does, and where that passes gives its room
+pub first-report-exactly : (fit : GridFit) (s h : ℕ) → ((why : Refusal) → (fit ≡ fit-is.Refused why) ↔ (reportFor fit (first-is.Room s h) ≡ first-is.Refused why)) × ((fit ≡ fit-is.Fits) ↔ (reportFor fit (first-is.Room s h) ≡ first-is.Room s h))
+unfolding reportFor
+first-report-exactly fit-is.Fits s h = (λ why. (λ e. absurd (let z : _≡_ {A = ℕ} 0 1 = cc in omega arith), λ e. absurd (let z : _≡_ {A = ℕ} 0 1 = cc in omega arith)), (λ e. refl, λ e. refl))
+first-report-exactly (fit-is.Refused f) s h =
+    (λ why. (λ e. cc, λ e. cc), (λ e. absurd (let z : _≡_ {A = ℕ} 0 1 = cc in omega arith), λ e. absurd (let z : _≡_ {A = ℕ} 0 1 = cc in omega arith)))
+
+-- ---- 2. the second report
+
+-- a second report's answers are told apart
+pub reports : (s r h p : ℕ) → Answers second-is.Refused (second-is.Room s r h p)
+reports s r h p = record { apart = λ why e. let z : _≡_ {A = ℕ} 0 1 = cc in omega arith; same = λ f g e. cc }
+
+abbrev pub roomAt : List Float → Float → ℕ → ℕ → SecondReport
+roomAt values threshold dx dy =
+    second-is.Room (segmentCount (above values threshold dx dy) dx dy) (ringCount (above values threshold dx dy) dx dy) (peak (above values threshold dx dy) dx dy)
+    (pointCount (segmentCount (above values threshold dx dy) dx dy) (ringCount (above values threshold dx dy) dx dy))
+
 module _ (values : List Float) (threshold : Float) (dx dy : ℕ) (lines links : List ℕ) where
+  abbrev sheet : Sheet
+  sheet = terrain (atLeast threshold) values dx dy
+
+  second-worked : {p : SecondReport} {lines′ links′ : List ℕ} → SecondReported values threshold dx dy lines links p lines′ links′
+      → Worked second-is.Refused (roomAt values threshold dx dy) (gridFit (length values) dx dy) (openWords dx (peak sheet dx dy)) (linkWords (segmentCount sheet dx dy)) passes lines links p lines′ links′
+  unfolding workVerdict reported
+  second-worked k = record {
+    answers = k .answers ∙ by-one second-is.Refused (roomAt values threshold dx dy) (λ v. reported v sheet dx dy) (λ why. refl) refl (onEntry values threshold dx dy lines links);
+    lines-are = k .lines-are;
+    links-are = k .links-are;
+  }
+
   -- two results that meet the second report's contract on the same entry are equal
   pub one-second-report : {p q : SecondReport} {pl pk ql qk : List ℕ} → SecondReported values threshold dx dy lines links p pl pk → SecondReported values threshold dx dy lines links q ql qk → (p ≡ q) × (pl ≡ ql) × (pk ≡ qk)
-  one-second-report a b = (a .answers ∙ sym (b .answers), a .lines-are ∙ sym (b .lines-are), a .links-are ∙ sym (b .links-are))
+  one-second-report a b = one-worked (second-worked a) (second-worked b)
 
-  -- two results that meet the contract of contour_rings on the same entry are equal
-  pub one-build : (points directory : List ℕ) {p q : Built} {pl pk pp pd ql qk qp qd : List ℕ} → RingsBuilt values threshold dx dy lines links points directory p pl pk pp pd → RingsBuilt values threshold dx dy lines links points directory q ql qk qp qd
-      → (p ≡ q) × (pl ≡ ql) × (pk ≡ qk) × (pp ≡ qp) × (pd ≡ qd)
-  one-build points directory a b =
-      (a .answers ∙ sym (b .answers), a .lines-are ∙ sym (b .lines-are), a .links-are ∙ sym (b .links-are), a .points-are ∙ sym (b .points-are), a .directory-is ∙ sym (b .directory-is))
+  -- numbers 1, 2, 5 and 6 exactly
+  pub second-report-exactly : {p : SecondReport} {lines′ links′ : List ℕ} → SecondReported values threshold dx dy lines links p lines′ links′
+      → ReportExact second-is.Refused (roomAt values threshold dx dy) p (gridFit (length values) dx dy) (length lines) (openWords dx (peak sheet dx dy)) (length links) (linkWords (segmentCount sheet dx dy))
+  second-report-exactly k = worked-exact (reports _ _ _ _) (grid-early (length values) dx dy 4 (omega arith)) (second-worked k)
 
--- ---- 2. refused exactly
+-- ---- 3. the builds
 
--- two tests, of which the lower number is given first
-module _ (low high : Refusal) (apart : low ≡ high → ⊥) (m need n need′ : ℕ) where
-  abbrev tests : Verdict
-  tests = cond (ltb m need) (refused low) (cond (ltb n need′) (refused high) passes)
+-- what the rings of a grid come to, with directory records of any kind
+abbrev pub drawnPlan : List Float → Float → ℕ → ℕ → List ℕ → Plan
+drawnPlan values threshold dx dy records = record {
+  fit = gridFit (length values) dx dy;
+  rings = ringCount (above values threshold dx dy) dx dy;
+  openNeed = openWords dx (peak (above values threshold dx dy) dx dy);
+  linkNeed = linkWords (segmentCount (above values threshold dx dy) dx dy);
+  pointNeed = pointWords (segmentCount (above values threshold dx dy) dx dy) (ringCount (above values threshold dx dy) dx dy);
+  directoryNeed = directoryWords (ringCount (above values threshold dx dy) dx dy);
+  packed = packedPoints (ringsOf (above values threshold dx dy) dx dy);
+  records = records;
+}
 
-  low-exactly : (m < need → tests ≡ refused low) × (tests ≡ refused low → m < need)
-  low-exactly = (λ h. rw (lt-ltb m need h), by (ltb m need) (ltb n need′) refl)
-    where
-      by : (a b : Bool) → ltb m need ≡ a → cond a (refused low) (cond b (refused high) passes) ≡ refused low → m < need
-      by true b ea e = ltb-true m need ea
-      by false true ea e = absurd (apart cc)
-      by false false ea e = absurd (let z : _≡_ {A = ℕ} 0 1 = cc in omega arith)
+-- contour_rings' records are bare, and those of contours have the classes and owners
+abbrev pub ringsPlan : List Float → Float → ℕ → ℕ → Plan
+ringsPlan values threshold dx dy = drawnPlan values threshold dx dy (bareRecords 0 0 (ringsOf (above values threshold dx dy) dx dy))
 
-  high-exactly : ((need ≤ m) × (n < need′) → tests ≡ refused high) × (tests ≡ refused high → (need ≤ m) × (n < need′))
-  high-exactly = (λ h. rw (le-ltb m need (h .0), lt-ltb n need′ (h .1)), by (ltb m need) (ltb n need′) refl refl)
-    where
-      by : (a b : Bool) → ltb m need ≡ a → ltb n need′ ≡ b → cond a (refused low) (cond b (refused high) passes) ≡ refused high → (need ≤ m) × (n < need′)
-      by true b ea eb e = absurd (apart cc)
-      by false true ea eb e = (ltb-false m need ea, ltb-true n need′ eb)
-      by false false ea eb e = absurd (let z : _≡_ {A = ℕ} 0 1 = cc in omega arith)
-
-  passes-exactly : ((need ≤ m) × (need′ ≤ n) → tests ≡ passes) × (tests ≡ passes → (need ≤ m) × (need′ ≤ n))
-  passes-exactly = (λ h. rw (le-ltb m need (h .0), le-ltb n need′ (h .1)), by (ltb m need) (ltb n need′) refl refl)
-    where
-      by : (a b : Bool) → ltb m need ≡ a → ltb n need′ ≡ b → cond a (refused low) (cond b (refused high) passes) ≡ passes → (need ≤ m) × (need′ ≤ n)
-      by true b ea eb e = absurd (let z : _≡_ {A = ℕ} 0 1 = cc in omega arith)
-      by false true ea eb e = absurd (let z : _≡_ {A = ℕ} 0 1 = cc in omega arith)
-      by false false ea eb e = (ltb-false m need ea, ltb-false n need′ eb)
-
-work-apart : OpenShort ≡ LinksShort → ⊥
-work-apart e = let z : _≡_ {A = ℕ} 0 1 = cc in omega arith
-
-output-apart : PointsShort ≡ DirectoryShort → ⊥
-output-apart e = let z : _≡_ {A = ℕ} 0 1 = cc in omega arith
-
--- the work tables of a grid that fits
-module _ (A : Sheet) (count dx dy : ℕ) (fits : gridFit count dx dy ≡ fit-is.Fits) (lines links : ℕ) where
-  -- number 5 is given exactly where the open table is short
-  pub open-short-exactly : (lines < openWords dx (peak A dx dy) → workVerdict A count dx dy lines links ≡ refused OpenShort) × (workVerdict A count dx dy lines links ≡ refused OpenShort → lines < openWords dx (peak A dx dy))
-  unfolding workVerdict afterGrid
-  open-short-exactly = rw fits (low-exactly OpenShort LinksShort work-apart lines (openWords dx (peak A dx dy)) links (linkWords (segmentCount A dx dy)))
-
-  -- number 6 is given exactly where the open table has its room and the link table is short
-  pub links-short-exactly : ((openWords dx (peak A dx dy) ≤ lines) × (links < linkWords (segmentCount A dx dy)) → workVerdict A count dx dy lines links ≡ refused LinksShort)
-      × (workVerdict A count dx dy lines links ≡ refused LinksShort → (openWords dx (peak A dx dy) ≤ lines) × (links < linkWords (segmentCount A dx dy)))
-  unfolding workVerdict afterGrid
-  links-short-exactly = rw fits (high-exactly OpenShort LinksShort work-apart lines (openWords dx (peak A dx dy)) links (linkWords (segmentCount A dx dy)))
-
-  -- the work tables pass exactly where both have their room
-  pub work-passes-exactly : ((openWords dx (peak A dx dy) ≤ lines) × (linkWords (segmentCount A dx dy) ≤ links) → workVerdict A count dx dy lines links ≡ passes)
-      × (workVerdict A count dx dy lines links ≡ passes → (openWords dx (peak A dx dy) ≤ lines) × (linkWords (segmentCount A dx dy) ≤ links))
-  unfolding workVerdict afterGrid
-  work-passes-exactly = rw fits (passes-exactly OpenShort LinksShort work-apart lines (openWords dx (peak A dx dy)) links (linkWords (segmentCount A dx dy)))
-
--- the outputs, for S segments and R rings
-module _ (s r points directory : ℕ) where
-  -- number 7 is given exactly where the points are short
-  pub points-short-exactly : (points < pointWords s r → roomVerdict s r points directory ≡ refused PointsShort) × (roomVerdict s r points directory ≡ refused PointsShort → points < pointWords s r)
-  unfolding roomVerdict
-  points-short-exactly = low-exactly PointsShort DirectoryShort output-apart points (pointWords s r) directory (directoryWords r)
-
-  -- number 8 is given exactly where the points have their room and the directory is short
-  pub directory-short-exactly : ((pointWords s r ≤ points) × (directory < directoryWords r) → roomVerdict s r points directory ≡ refused DirectoryShort)
-      × (roomVerdict s r points directory ≡ refused DirectoryShort → (pointWords s r ≤ points) × (directory < directoryWords r))
-  unfolding roomVerdict
-  directory-short-exactly = high-exactly PointsShort DirectoryShort output-apart points (pointWords s r) directory (directoryWords r)
-
-  -- the outputs pass exactly where both have their room
-  pub output-passes-exactly : ((pointWords s r ≤ points) × (directoryWords r ≤ directory) → roomVerdict s r points directory ≡ passes)
-      × (roomVerdict s r points directory ≡ passes → (pointWords s r ≤ points) × (directoryWords r ≤ directory))
-  unfolding roomVerdict
-  output-passes-exactly = passes-exactly PointsShort DirectoryShort output-apart points (pointWords s r) directory (directoryWords r)
-
--- ---- 3. exact room
-
--- words that fill a table leave none of it
-nothing-past : (words table : List ℕ) (n : ℕ) → length table ≡ n → words ++ drop n table ≡ words
-nothing-past words table n e = ap (λ (l : List ℕ). words ++ l) (drop-of-length-le table {i = n} (omega arith)) ∙ append-nil words
+abbrev pub contoursPlan : List Float → Float → ℕ → ℕ → Plan
+contoursPlan values threshold dx dy = drawnPlan values threshold dx dy (contourRecords (ringsOf (above values threshold dx dy) dx dy))
 
 module _ (values : List Float) (threshold : Float) (dx dy : ℕ) where
   abbrev A : Sheet
   A = terrain (atLeast threshold) values dx dy
 
-  -- lent just the room, a grid that fits gives all its rings, its points and records are the whole outputs, and both work tables are all zero
-  pub exact-room : gridFit (length values) dx dy ≡ fit-is.Fits → (lines links points directory : List ℕ)
-      → length lines ≡ openWords dx (peak A dx dy) → length links ≡ linkWords (segmentCount A dx dy)
-      → length points ≡ pointWords (segmentCount A dx dy) (ringCount A dx dy) → length directory ≡ directoryWords (ringCount A dx dy)
-      → {answer : Built} {lines′ links′ points′ directory′ : List ℕ} → RingsBuilt values threshold dx dy lines links points directory answer lines′ links′ points′ directory′
-      → (answer ≡ built-is.Rings (ringCount A dx dy)) × (points′ ≡ packedPoints (ringsOf A dx dy)) × (directory′ ≡ bareRecords 0 0 (ringsOf A dx dy))
-      × (lines′ ≡ replicate (openWords dx (peak A dx dy)) 0) × (links′ ≡ replicate (linkWords (segmentCount A dx dy)) 0)
-  unfolding built workAfter outputAfter written zeroed
-  exact-room fits lines links points directory el ek ep ed k = (
-    k .answers ∙ rw (work, outputs),
-    k .points-are ∙ rw (work, outputs) (nothing-past (packedPoints (ringsOf A dx dy)) points (length (packedPoints (ringsOf A dx dy))) (ep ∙ sym (packed-points-fill-their-room A out))),
-    k .directory-is ∙ rw (work, outputs) (nothing-past (bareRecords 0 0 (ringsOf A dx dy)) directory (length (bareRecords 0 0 (ringsOf A dx dy))) (ed ∙ sym (records-fill-their-room A out))),
-    k .lines-are ∙ rw work (nothing-past (replicate (openWords dx (peak A dx dy)) 0) lines (openWords dx (peak A dx dy)) el),
-    k .links-are ∙ rw work (nothing-past (replicate (linkWords (segmentCount A dx dy)) 0) links (linkWords (segmentCount A dx dy)) ek),
-  )
-    where
-      out : Outside A dx dy
-      out = terrain-outside (atLeast threshold) values dx dy
+  out : Outside A dx dy
+  out = terrain-outside (atLeast threshold) values dx dy
 
-      work : workVerdict A (length values) dx dy (length lines) (length links) ≡ passes
-      work = work-passes-exactly A (length values) dx dy fits (length lines) (length links) .0 (omega (arith, el), omega (arith, ek))
+  contour-records-fill-their-room : length (contourRecords (ringsOf A dx dy)) ≡ directoryWords (ringCount A dx dy)
+  unfolding directoryWords recordStride ringCount
+  contour-records-fill-their-room = contour-length (ringsOf A dx dy)
 
-      outputs : outputVerdict A dx dy (length points) (length directory) ≡ passes
-      outputs = unfold outputVerdict in output-passes-exactly (segmentCount A dx dy) (ringCount A dx dy) (length points) (length directory) .0 (omega (arith, ep), omega (arith, ed))
+  module _ (lines links points directory : List ℕ) where
+    drawn : (records : List ℕ) {answer : Built} {lines′ links′ points′ directory′ : List ℕ} → answer ≡ built (onEntry values threshold dx dy lines links) (onOutputs values threshold dx dy points directory) A dx dy
+        → lines′ ≡ workAfter (onEntry values threshold dx dy lines links) (openWords dx (peak A dx dy)) lines
+        → links′ ≡ workAfter (onEntry values threshold dx dy lines links) (linkWords (segmentCount A dx dy)) links
+        → points′ ≡ outputAfter (onEntry values threshold dx dy lines links) (onOutputs values threshold dx dy points directory) (packedPoints (ringsOf A dx dy)) points
+        → directory′ ≡ outputAfter (onEntry values threshold dx dy lines links) (onOutputs values threshold dx dy points directory) records directory
+        → Constructed (drawnPlan values threshold dx dy records) lines links points directory answer lines′ links′ points′ directory′
+    unfolding built workVerdict outputVerdict roomVerdict
+    drawn records a l k p d = record {
+      worked = record {
+        answers = a ∙ by-two built-is.Refused (built-is.Rings (ringCount A dx dy)) (λ v w. built v w A dx dy) (λ why w. refl) (λ why. refl) refl (onEntry values threshold dx dy lines links) (onOutputs values threshold dx dy points directory);
+        lines-are = l;
+        links-are = k;
+      };
+      points-are = p;
+      directory-is = d;
+    }
+
+    rings-constructed : {answer : Built} {lines′ links′ points′ directory′ : List ℕ} → RingsBuilt values threshold dx dy lines links points directory answer lines′ links′ points′ directory′
+        → Constructed (ringsPlan values threshold dx dy) lines links points directory answer lines′ links′ points′ directory′
+    rings-constructed k = drawn (bareRecords 0 0 (ringsOf A dx dy)) (k .answers) (k .lines-are) (k .links-are) (k .points-are) (k .directory-is)
+
+    contours-constructed : {answer : Built} {lines′ links′ points′ directory′ : List ℕ} → ContoursBuilt values threshold dx dy lines links points directory answer lines′ links′ points′ directory′
+        → Constructed (contoursPlan values threshold dx dy) lines links points directory answer lines′ links′ points′ directory′
+    contours-constructed k = drawn (contourRecords (ringsOf A dx dy)) (k .answers) (k .lines-are) (k .links-are) (k .points-are) (k .directory-is)
+
+    -- two results that meet the contract of contour_rings, or that of contours, on the same entry are equal
+    pub one-build : {p q : Built} {pl pk pp pd ql qk qp qd : List ℕ} → RingsBuilt values threshold dx dy lines links points directory p pl pk pp pd → RingsBuilt values threshold dx dy lines links points directory q ql qk qp qd
+        → (p ≡ q) × (pl ≡ ql) × (pk ≡ qk) × (pp ≡ qp) × (pd ≡ qd)
+    one-build a b = one-construction (rings-constructed a) (rings-constructed b)
+
+    pub one-contours : {p q : Built} {pl pk pp pd ql qk qp qd : List ℕ} → ContoursBuilt values threshold dx dy lines links points directory p pl pk pp pd → ContoursBuilt values threshold dx dy lines links points directory q ql qk qp qd
+        → (p ≡ q) × (pl ≡ ql) × (pk ≡ qk) × (pp ≡ qp) × (pd ≡ qd)
+    one-contours a b = one-construction (contours-constructed a) (contours-constructed b)
+
+    -- numbers 1, 2 and 5 to 8 exactly
+    pub rings-exactly : {answer : Built} {lines′ links′ points′ directory′ : List ℕ} → RingsBuilt values threshold dx dy lines links points directory answer lines′ links′ points′ directory′
+        → Exact (ringsPlan values threshold dx dy) lines links points directory answer
+    rings-exactly k = constructed-exact (grid-early (length values) dx dy 4 (omega arith)) (rings-constructed k)
+
+    pub contours-exactly : {answer : Built} {lines′ links′ points′ directory′ : List ℕ} → ContoursBuilt values threshold dx dy lines links points directory answer lines′ links′ points′ directory′
+        → Exact (contoursPlan values threshold dx dy) lines links points directory answer
+    contours-exactly k = constructed-exact (grid-early (length values) dx dy 4 (omega arith)) (contours-constructed k)
+
+    -- lent just the room, a grid that fits gives all its rings, its points and records are the whole outputs, and both work tables are all zero
+    module _ (fits : gridFit (length values) dx dy ≡ fit-is.Fits) {answer : Built} {lines′ links′ points′ directory′ : List ℕ} where
+      pub exact-room : JustRoom (ringsPlan values threshold dx dy) lines links points directory → RingsBuilt values threshold dx dy lines links points directory answer lines′ links′ points′ directory′
+          → Filled (ringsPlan values threshold dx dy) answer lines′ links′ points′ directory′
+      exact-room just k = fills fits (packed-points-fill-their-room A out) (records-fill-their-room A out) just (rings-constructed k)
+
+      pub contours-exact-room : JustRoom (contoursPlan values threshold dx dy) lines links points directory → ContoursBuilt values threshold dx dy lines links points directory answer lines′ links′ points′ directory′
+          → Filled (contoursPlan values threshold dx dy) answer lines′ links′ points′ directory′
+      contours-exact-room just k = fills fits (packed-points-fill-their-room A out) contour-records-fill-their-room just (contours-constructed k)
 
   -- ---- 4. the peak in the reports
 
@@ -169,7 +188,6 @@ module _ (values : List Float) (threshold : Float) (dx dy : ℕ) where
 
   the-peak-is : LargestHalf (peak A dx dy)
   the-peak-is =
-      let out : Outside A dx dy = terrain-outside (atLeast threshold) values dx dy in
       record { no-cell-has-more = the-peak-is-highest A out; a-cell-has-as-many = the-peak-is-reached A out; is-low = the-peak-is-low A out }
 
   -- a grid that fits is answered its segments and its peak

@@ -1,4 +1,5 @@
-// The public face: the two reports, the rings of a grid, the area of a ring, and a ring against a ring. None asks anything of the caller.
+// The public face: the two reports, the rings of a grid, contours and isobands, the reports of a band, the area of a ring, and a ring against a ring. None asks
+// anything of the caller.
 use area::AreaAnswer;
 use area::Containment;
 use cells::Level;
@@ -7,6 +8,8 @@ use isoringbuilder::SecondReport;
 use scan::FirstReport;
 ghost use mathlib.Core.Path.{_≡_};
 ghost use Rattle.area.specs.Answers.{areaAnswer, containsAnswer};
+ghost use Rattle.bands.specs.Bands.{bandFirstReport, BandReported, BandBuilt};
+ghost use Rattle.contourbuilder.specs.Contours.{ContoursBuilt};
 ghost use Rattle.isoringbuilder.specs.Answers.{SecondReported, RingsBuilt};
 ghost use Rattle.scan.specs.Report.{firstReport};
 
@@ -47,6 +50,82 @@ pub fn contour_rings(
         (now (lines .exit)) (now (links .exit)) (now (points .exit)) (now (directory .exit)) ⌝ }
 {
     isoringbuilder::contour_rings(values, level, dx, dy, lines, links, points, directory)
+}
+
+// Every ring of a grid at one threshold, as contour_rings gives them, with classes and owners: points packed by ring number, and a directory record a ring, with
+// its class and its owner. On success, and where points or directory are short, the needed words of both work tables are zero; any refusal spares the outputs.
+pub fn contours(
+    values: &[f64],
+    level: Level,
+    dx: usize,
+    dy: usize,
+    lines: &mut [u32],
+    links: &mut [u32],
+    points: &mut [u16],
+    directory: &mut [u32],
+) -> Built
+    ensures { λ r. ⌜ ContoursBuilt (now (values .entry)) (level .threshold) dx dy (now (lines .entry)) (now (links .entry)) (now (points .entry)) (now (directory .entry)) r
+        (now (lines .exit)) (now (links .exit)) (now (points .exit)) (now (directory .exit)) ⌝ }
+{
+    contourbuilder::contours(values, level, dx, dy, lines, links, points, directory)
+}
+
+// The larger segment count and the larger peak of the thresholds k and k + 1 of a list, or the lowest refusal that applies, alone.
+pub fn band_first_report(
+    values: &[f64],
+    thresholds: &[f64],
+    k: usize,
+    dx: usize,
+    dy: usize,
+) -> FirstReport
+    ensures { λ r. ⌜ r ≡ bandFirstReport (now (values .entry)) (now (thresholds .entry)) k dx dy ⌝ }
+{
+    bands::band_first_report(values, thresholds, k, dx, dy)
+}
+
+// All room for the band of thresholds k and k + 1 of a list. On success the needed words of both work tables are zero; a refusal changes nothing.
+pub fn band_second_report(
+    values: &[f64],
+    thresholds: &[f64],
+    k: usize,
+    dx: usize,
+    dy: usize,
+    lines: &mut [u32],
+    links: &mut [u32],
+) -> SecondReport
+    ensures { λ r. ⌜ BandReported (now (values .entry)) (now (thresholds .entry)) k dx dy (now (lines .entry)) (now (links .entry)) r (now (lines .exit)) (now (links .exit)) ⌝ }
+{
+    bands::band_second_report(values, thresholds, k, dx, dy, lines, links)
+}
+
+// Every ring of the band of thresholds k and k + 1 of a list, with classes and owners: points packed by ring number, the lower set's first, and a directory record
+// a ring in the band's sorted order. On success, and where points or directory are short, the needed words of both work tables are zero; any refusal spares the
+// outputs.
+pub fn isobands(
+    values: &[f64],
+    thresholds: &[f64],
+    k: usize,
+    dx: usize,
+    dy: usize,
+    lines: &mut [u32],
+    links: &mut [u32],
+    points: &mut [u16],
+    directory: &mut [u32],
+) -> Built
+    ensures { λ r. ⌜ BandBuilt (now (values .entry)) (now (thresholds .entry)) k dx dy (now (lines .entry)) (now (links .entry)) (now (points .entry)) (now (directory .entry)) r
+        (now (lines .exit)) (now (links .exit)) (now (points .exit)) (now (directory .exit)) ⌝ }
+{
+    contourbuilder::isobands(
+        values,
+        thresholds,
+        k,
+        dx,
+        dy,
+        lines,
+        links,
+        points,
+        directory,
+    )
 }
 
 // The signed area of a ring, or the refusal of words that are no ring.

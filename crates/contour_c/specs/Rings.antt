@@ -1,18 +1,16 @@
--- What the reports and contour_rings return to C, and what they leave in their outputs, by what the library answers. Assumes nothing.
+-- What the reports and the builds return to C, and what they leave in their outputs, by what the library answers. Assumes nothing.
 use mathlib.Core.Path.{_≡_}
 use mathlib.Core.List.{List}
 use Prim.Native.Nat.{ℕ}
-use lib.Ieee.{Float}
 use Rattle.error.specs.Number.{refusalNumber}
 use Rattle.scan.specs.declared.FirstReport.{FirstReport}
 use Rattle.scan.specs.declared.FirstReport.the-variants as first-is
-use Rattle.isoringbuilder.specs.Answers.{SecondReported, RingsBuilt}
 use Rattle.isoringbuilder.specs.declared.SecondReport.{SecondReport}
 use Rattle.isoringbuilder.specs.declared.SecondReport.the-variants as second-is
 use Rattle.isoringbuilder.specs.declared.Built.{Built}
 use Rattle.isoringbuilder.specs.declared.Built.the-variants as built-is
 
--- the first report: 0 or the refusal's number, and each output set or as it was
+-- a first report: 0 or the refusal's number, and each output set or as it was
 unfoldable pub firstStatus : FirstReport → ℕ
 firstStatus (first-is.Room s h) = 0
 firstStatus (first-is.Refused why) = refusalNumber why
@@ -25,7 +23,7 @@ unfoldable pub firstPeak : ℕ → FirstReport → ℕ
 firstPeak old (first-is.Room s h) = h
 firstPeak old (first-is.Refused why) = old
 
--- the second report, likewise
+-- a second report, likewise
 unfoldable pub secondStatus : SecondReport → ℕ
 secondStatus (second-is.Room s r h p) = 0
 secondStatus (second-is.Refused why) = refusalNumber why
@@ -46,7 +44,7 @@ unfoldable pub secondPoints : ℕ → SecondReport → ℕ
 secondPoints old (second-is.Room s r h p) = p
 secondPoints old (second-is.Refused why) = old
 
--- contour_rings, likewise
+-- a build, likewise
 unfoldable pub builtStatus : Built → ℕ
 builtStatus (built-is.Rings r) = 0
 builtStatus (built-is.Refused why) = refusalNumber why
@@ -55,21 +53,19 @@ unfoldable pub builtRings : ℕ → Built → ℕ
 builtRings old (built-is.Rings r) = r
 builtRings old (built-is.Refused why) = old
 
--- the second report's answer and tables are the library's, and the status and the outputs are that answer's
-pub record SecondEntry (values : List Float) (threshold : Float) (dx dy : ℕ) (lines links : List ℕ) (segments rings peak points : ℕ) (status : ℕ) (lines′ links′ : List ℕ)
-    (segments′ rings′ peak′ points′ : ℕ) : Type 0 where
+-- a second report whose answer and tables are such as the library ensures: the status and the outputs are that answer's
+pub record SecondEntry (Reported : SecondReport → List ℕ → List ℕ → Type 0) (segments rings peak points : ℕ) (status : ℕ) (lines′ links′ : List ℕ) (segments′ rings′ peak′ points′ : ℕ) : Type 0 where
   pub answer : SecondReport
-  pub reported : SecondReported values threshold dx dy lines links answer lines′ links′
+  pub reported : Reported answer lines′ links′
   pub status-is : status ≡ secondStatus answer
   pub segments-are : segments′ ≡ secondSegments segments answer
   pub rings-are : rings′ ≡ secondRings rings answer
   pub peak-is : peak′ ≡ secondPeak peak answer
   pub points-are : points′ ≡ secondPoints points answer
 
--- contour_rings' answer and tables are the library's, and the status and the output are that answer's
-pub record RingsEntry (values : List Float) (threshold : Float) (dx dy : ℕ) (lines links points directory : List ℕ) (rings : ℕ) (status : ℕ)
-    (lines′ links′ points′ directory′ : List ℕ) (rings′ : ℕ) : Type 0 where
+-- a build whose answer and tables are such as the library ensures: the status and the output are that answer's
+pub record RingsEntry (BuiltAs : Built → List ℕ → List ℕ → List ℕ → List ℕ → Type 0) (rings : ℕ) (status : ℕ) (lines′ links′ points′ directory′ : List ℕ) (rings′ : ℕ) : Type 0 where
   pub answer : Built
-  pub built : RingsBuilt values threshold dx dy lines links points directory answer lines′ links′ points′ directory′
+  pub built : BuiltAs answer lines′ links′ points′ directory′
   pub status-is : status ≡ builtStatus answer
   pub rings-are : rings′ ≡ builtRings rings answer

@@ -10,6 +10,9 @@ ghost use mathlib.Core.Path.{_≡_};
 ghost use Rattle.scope.specs.Area.{areaRefused};
 ghost use Rattle.scope.specs.Containment.{containsRefused};
 ghost use Rattle.scan.specs.Report.{firstReport};
+ghost use Rattle.isoringbuilder.specs.Answers.{SecondReported, RingsBuilt};
+ghost use Rattle.bands.specs.Bands.{bandFirstReport, BandReported, BandBuilt};
+ghost use Rattle.contourbuilder.specs.Contours.{ContoursBuilt};
 ghost use Rattle.contour_c.specs.Entries.{statusOf, areaOutput, containsOutput};
 ghost use Rattle.contour_c.specs.Rings.{firstStatus, firstSegments, firstPeak, SecondEntry, RingsEntry};
 
@@ -92,7 +95,8 @@ pub extern "C" fn contour_second_report(
     peak: &mut u32,
     points: &mut u32,
 ) -> u32
-    ensures { λ r. ⌜ SecondEntry (now (values .entry)) threshold dx dy (now (lines .entry)) (now (links .entry)) (now (segments .entry)) (now (rings .entry)) (now (peak .entry)) (now (points .entry)) r
+    ensures { λ r. ⌜ SecondEntry (SecondReported (now (values .entry)) threshold dx dy (now (lines .entry)) (now (links .entry)))
+        (now (segments .entry)) (now (rings .entry)) (now (peak .entry)) (now (points .entry)) r
         (now (lines .exit)) (now (links .exit)) (now (segments .exit)) (now (rings .exit)) (now (peak .exit)) (now (points .exit)) ⌝ }
 {
     match isoringbuilder::second_report(values, Level { threshold }, dx, dy, lines, links) {
@@ -125,12 +129,147 @@ pub extern "C" fn contour_rings(
     directory: &mut [u32],
     rings: &mut u32,
 ) -> u32
-    ensures { λ r. ⌜ RingsEntry (now (values .entry)) threshold dx dy (now (lines .entry)) (now (links .entry)) (now (points .entry)) (now (directory .entry)) (now (rings .entry)) r
+    ensures { λ r. ⌜ RingsEntry (RingsBuilt (now (values .entry)) threshold dx dy (now (lines .entry)) (now (links .entry)) (now (points .entry)) (now (directory .entry))) (now (rings .entry)) r
         (now (lines .exit)) (now (links .exit)) (now (points .exit)) (now (directory .exit)) (now (rings .exit)) ⌝ }
 {
     match isoringbuilder::contour_rings(
         values,
         Level { threshold },
+        dx,
+        dy,
+        lines,
+        links,
+        points,
+        directory,
+    ) {
+        Built::Rings(count) => {
+            *rings = count;
+            0
+        }
+        Built::Refused(refusal) => error::number(refusal),
+    }
+}
+
+// Every ring of a grid at a threshold, as contour_rings gives them, with its class and its owner in its directory record.
+#[no_mangle]
+pub extern "C" fn contour_contours(
+    values: &[f64],
+    threshold: f64,
+    dx: usize,
+    dy: usize,
+    lines: &mut [u32],
+    links: &mut [u32],
+    points: &mut [u16],
+    directory: &mut [u32],
+    rings: &mut u32,
+) -> u32
+    ensures { λ r. ⌜ RingsEntry (ContoursBuilt (now (values .entry)) threshold dx dy (now (lines .entry)) (now (links .entry)) (now (points .entry)) (now (directory .entry))) (now (rings .entry)) r
+        (now (lines .exit)) (now (links .exit)) (now (points .exit)) (now (directory .exit)) (now (rings .exit)) ⌝ }
+{
+    match contourbuilder::contours(
+        values,
+        Level { threshold },
+        dx,
+        dy,
+        lines,
+        links,
+        points,
+        directory,
+    ) {
+        Built::Rings(count) => {
+            *rings = count;
+            0
+        }
+        Built::Refused(refusal) => error::number(refusal),
+    }
+}
+
+// The larger segment count and the larger peak of the thresholds k and k + 1 of a list, with no table at all.
+#[no_mangle]
+pub extern "C" fn contour_band_first_report(
+    values: &[f64],
+    thresholds: &[f64],
+    k: usize,
+    dx: usize,
+    dy: usize,
+    segments: &mut u32,
+    peak: &mut u32,
+) -> u32
+    ensures { λ r. ⌜ r ≡ firstStatus (bandFirstReport (now (values .entry)) (now (thresholds .entry)) k dx dy) ⌝ }
+    ensures { λ _. ⌜ now (segments .exit) ≡ firstSegments (now (segments .entry)) (bandFirstReport (now (values .entry)) (now (thresholds .entry)) k dx dy) ⌝ }
+    ensures { λ _. ⌜ now (peak .exit) ≡ firstPeak (now (peak .entry)) (bandFirstReport (now (values .entry)) (now (thresholds .entry)) k dx dy) ⌝ }
+{
+    match bands::band_first_report(values, thresholds, k, dx, dy) {
+        FirstReport::Room {
+            segments: drawn,
+            peak: highest,
+        } => {
+            *segments = drawn;
+            *peak = highest;
+            0
+        }
+        FirstReport::Refused(refusal) => error::number(refusal),
+    }
+}
+
+// What a band of the thresholds k and k + 1 of a list needs, over both work tables: the larger segment count, the rings of both sets, the larger peak of open
+// lines, and the points of both sets.
+#[no_mangle]
+pub extern "C" fn contour_band_second_report(
+    values: &[f64],
+    thresholds: &[f64],
+    k: usize,
+    dx: usize,
+    dy: usize,
+    lines: &mut [u32],
+    links: &mut [u32],
+    segments: &mut u32,
+    rings: &mut u32,
+    peak: &mut u32,
+    points: &mut u32,
+) -> u32
+    ensures { λ r. ⌜ SecondEntry (BandReported (now (values .entry)) (now (thresholds .entry)) k dx dy (now (lines .entry)) (now (links .entry)))
+        (now (segments .entry)) (now (rings .entry)) (now (peak .entry)) (now (points .entry)) r
+        (now (lines .exit)) (now (links .exit)) (now (segments .exit)) (now (rings .exit)) (now (peak .exit)) (now (points .exit)) ⌝ }
+{
+    match bands::band_second_report(values, thresholds, k, dx, dy, lines, links) {
+        SecondReport::Room {
+            segments: drawn,
+            rings: closed,
+            peak: highest,
+            points: total,
+        } => {
+            *segments = drawn;
+            *rings = closed;
+            *peak = highest;
+            *points = total;
+            0
+        }
+        SecondReport::Refused(refusal) => error::number(refusal),
+    }
+}
+
+// Every ring of the band of thresholds k and k + 1 of a list, with its class and its owner: points of the lower set first, and records in the band's sorted order.
+#[no_mangle]
+pub extern "C" fn contour_isobands(
+    values: &[f64],
+    thresholds: &[f64],
+    k: usize,
+    dx: usize,
+    dy: usize,
+    lines: &mut [u32],
+    links: &mut [u32],
+    points: &mut [u16],
+    directory: &mut [u32],
+    rings: &mut u32,
+) -> u32
+    ensures { λ r. ⌜ RingsEntry (BandBuilt (now (values .entry)) (now (thresholds .entry)) k dx dy (now (lines .entry)) (now (links .entry)) (now (points .entry)) (now (directory .entry))) (now (rings .entry)) r
+        (now (lines .exit)) (now (links .exit)) (now (points .exit)) (now (directory .exit)) (now (rings .exit)) ⌝ }
+{
+    match contourbuilder::isobands(
+        values,
+        thresholds,
+        k,
         dx,
         dy,
         lines,

@@ -16,7 +16,7 @@ enum-told : tie.Need-enum-told
 enum-told c = search needs
 
 returns : tie.Need-returns
-returns c = sym (few _ _ _ _ _ (sym (c .before .before .before .grid-fit .ensures) ∙ c .before .enum-told .given .1) (c .if1 .taken))
+returns c = sym (few _ _ _ _ _ (sym (c .before .before .before .grid-fit .ensures) ∙ c .before .enum-told .given .1) (omega arith))
 
 sub-if2 : tie.Need-sub-if2
 sub-if2 c = search needs
@@ -24,7 +24,7 @@ sub-if2 c = search needs
 returns-2 : tie.Need-returns-2
 returns-2 c =
     let told = c .before .before in
-    sym (no-pair _ _ _ _ _ (sym (told .before .before .grid-fit .ensures) ∙ told .enum-told .given .1) (c .before .if1 .left) (omega arith))
+    sym (no-pair _ _ _ _ _ (sym (told .before .before .grid-fit .ensures) ∙ told .enum-told .given .1) (omega arith) (omega arith))
 
 returns-3 : tie.Need-returns-3
 returns-3 c = sym (grid-refused _ _ _ _ _ _ (sym (c .before .before .before .grid-fit .ensures) ∙ c .before .refusal .given .1))
@@ -32,7 +32,7 @@ returns-3 c = sym (grid-refused _ _ _ _ _ _ (sym (c .before .before .before .gri
 returns-4 : tie.Need-returns-4
 returns-4 c =
     let told = c .before .before in
-    sym (pair _ _ _ _ _ (sym (told .before .before .grid-fit .ensures) ∙ told .enum-told .given .1) (c .before .if1 .left) (omega arith))
+    sym (pair _ _ _ _ _ (sym (told .before .before .grid-fit .ensures) ∙ told .enum-told .given .1) (omega arith) (omega arith))
 
 pub band-fit-spec : {M : Type 1} → statement M
 band-fit-spec =

@@ -1,5 +1,4 @@
 -- `contour_c::contour_first_report` meets its contract: what `first_report` ensures and the arm's variant give the status and the outputs. Assumes nothing.
-use mathlib.Core.Path.{sym, _∙_}
 use Rattle.contour_c.proofs.Answered.{first-given, first-kept}
 use borrow.Author.Needs.{needs}
 use Rattle.contour_c.proofs.contour_first_report.Statement.{statement}
@@ -21,13 +20,13 @@ returns : tie.Need-returns
 returns c =
     let drawn = c .before .drawn .given in
     let entry = c .before .before .before .before .before .args in
-    first-given _ _ (entry .segments .now) (entry .peak .now) _ (sym (drawn .1) ∙ c .before .before .before .first-report .ensures)
+    first-given _ _ (entry .segments .now) (entry .peak .now) (drawn .1) (c .before .before .before .first-report .ensures)
 
 returns-2 : tie.Need-returns-2
 returns-2 c =
     let refusal = c .before .before .refusal .given in
     let entry = c .before .before .before .before .before .before .args in
-    first-kept _ _ (entry .segments .now) (entry .peak .now) _ (sym (refusal .1) ∙ c .before .before .before .before .first-report .ensures) (c .number .ensures)
+    first-kept _ _ (entry .segments .now) (entry .peak .now) (refusal .1) (c .before .before .before .before .first-report .ensures) (c .number .ensures)
 
 pub contour-first-report-spec : {M : Type 1} → statement M
 contour-first-report-spec =
