@@ -2,7 +2,8 @@
 use mathlib.Core.Path.{_≡_, refl, sym, _∙_, ap}
 use mathlib.Core.Bool.{Bool, true, false, cond}
 use mathlib.Core.List.{List}
-use Prim.Native.Nat.{ℕ, suc, _≤_, _<_}
+use Prim.Native.Nat.{ℕ, suc, _-_, _≤_, _<_}
+use native.Mathlib.Decide.{decLt}
 use native.Mathlib.Omega.{arith}
 use lib.Dec.{ltb}
 use lib.Ieee.{Float, nan}
@@ -18,6 +19,14 @@ use Rattle.bands.specs.Bands.{listFit, bandFit, fitPair}
 use Rattle.bands.specs.declared.BandFit.{BandFit}
 use Rattle.bands.specs.declared.BandFit.the-variants as pair-is
 
+-- more than one threshold is left from place k on exactly where k + 1 is a place
+pub pair-left : (thresholds k : ℕ) → k < thresholds → ltb 1 (thresholds - k) ≡ ltb (suc k) thresholds
+pair-left thresholds k h = by (decLt (suc k) thresholds)
+  where
+    by : Dec (suc k < thresholds) → ltb 1 (thresholds - k) ≡ ltb (suc k) thresholds
+    by (yes below) = lt-ltb 1 (thresholds - k) (omega arith) ∙ sym (lt-ltb (suc k) thresholds below)
+    by (no over) = le-ltb 1 (thresholds - k) (omega arith) ∙ sym (le-ltb (suc k) thresholds (omega arith))
+
 module _ (count dx dy thresholds k : ℕ) where
   pub grid-refused : (why : Refusal) → gridFit count dx dy ≡ fit-is.Refused why → bandFit count dx dy thresholds k ≡ fit-is.Refused why
   unfolding bandFit listFit
@@ -28,13 +37,13 @@ module _ (count dx dy thresholds k : ℕ) where
     unfolding bandFit listFit
     few h = rw (fits, lt-ltb thresholds 2 h)
 
-    pub no-pair : 2 ≤ thresholds → thresholds ≤ suc k → bandFit count dx dy thresholds k ≡ fit-is.Refused NoPair
+    pub no-pair : 2 ≤ thresholds → ltb (suc k) thresholds ≡ false → bandFit count dx dy thresholds k ≡ fit-is.Refused NoPair
     unfolding bandFit listFit
-    no-pair h n = rw (fits, le-ltb thresholds 2 h, le-ltb (suc k) thresholds n)
+    no-pair h n = rw (fits, le-ltb thresholds 2 h, n)
 
-    pub pair : 2 ≤ thresholds → suc k < thresholds → bandFit count dx dy thresholds k ≡ fit-is.Fits
+    pub pair : 2 ≤ thresholds → ltb (suc k) thresholds ≡ true → bandFit count dx dy thresholds k ≡ fit-is.Fits
     unfolding bandFit listFit
-    pair h n = rw (fits, le-ltb thresholds 2 h, lt-ltb (suc k) thresholds n)
+    pair h n = rw (fits, le-ltb thresholds 2 h, n)
 
   pub record Fitting : Type 0 where
     pub grid : gridFit count dx dy ≡ fit-is.Fits

@@ -17,6 +17,7 @@ use scan::scan;
 use stitching::stitch;
 ghost use mathlib.Core.Path.{_≡_};
 ghost use Prim.Native.Nat.{suc, max, _+_, _^_, _≤_, _<_};
+ghost use lib.Dec.{ltb};
 ghost use lib.ListN.{length};
 ghost use Rattle.scope.specs.Terrain.{atLeast, terrain};
 ghost use Rattle.machine.specs.Walk.{walkPoints, walkRecords};
@@ -48,6 +49,16 @@ pub enum BandPass {
     Refused(Refusal),
 }
 
+// Whether k + 1 is a place among so many thresholds.
+fn has_pair(thresholds: usize, k: usize) -> bool
+    ensures { λ r. ⌜ r ≡ ltb (suc k) thresholds ⌝ }
+{
+    if thresholds <= k {
+        return false;
+    }
+    1 < thresholds - k
+}
+
 // Whether a band can be drawn: the grid fits, there are two thresholds or more, and k + 1 is a place among them. Else the lowest refusal that applies.
 fn band_fit(count: usize, dx: usize, dy: usize, thresholds: usize, k: usize) -> GridFit
     ensures { λ r. ⌜ r ≡ bandFit count dx dy thresholds k ⌝ }
@@ -58,10 +69,10 @@ fn band_fit(count: usize, dx: usize, dy: usize, thresholds: usize, k: usize) -> 
             if thresholds < 2 {
                 return GridFit::Refused(Refusal::FewThresholds);
             }
-            if thresholds - 1 <= k {
-                return GridFit::Refused(Refusal::NoPair);
+            if has_pair(thresholds, k) {
+                return GridFit::Fits;
             }
-            GridFit::Fits
+            GridFit::Refused(Refusal::NoPair)
         }
     }
 }

@@ -18,21 +18,23 @@ enum-told c = search needs
 returns : tie.Need-returns
 returns c = sym (few _ _ _ _ _ (sym (c .before .before .before .grid-fit .ensures) ∙ c .before .enum-told .given .1) (omega arith))
 
-sub-if2 : tie.Need-sub-if2
-sub-if2 c = search needs
+has-pair-requires : tie.Need-has-pair-requires
+has-pair-requires c κs = search needs
 
 returns-2 : tie.Need-returns-2
 returns-2 c =
-    let told = c .before .before in
-    sym (no-pair _ _ _ _ _ (sym (told .before .before .grid-fit .ensures) ∙ told .enum-told .given .1) (omega arith) (omega arith))
+    let found = c .before in
+    let told = found .before .before in
+    sym (pair _ _ _ _ _ (sym (told .before .before .grid-fit .ensures) ∙ told .enum-told .given .1) (omega arith) (sym (found .has-pair .ensures) ∙ c .if2 .taken))
 
 returns-3 : tie.Need-returns-3
 returns-3 c = sym (grid-refused _ _ _ _ _ _ (sym (c .before .before .before .grid-fit .ensures) ∙ c .before .refusal .given .1))
 
 returns-4 : tie.Need-returns-4
 returns-4 c =
-    let told = c .before .before in
-    sym (pair _ _ _ _ _ (sym (told .before .before .grid-fit .ensures) ∙ told .enum-told .given .1) (omega arith) (omega arith))
+    let found = c .before in
+    let told = found .before .before in
+    sym (no-pair _ _ _ _ _ (sym (told .before .before .grid-fit .ensures) ∙ told .enum-told .given .1) (omega arith) (sym (found .has-pair .ensures) ∙ c .if2 .left))
 
 pub band-fit-spec : {M : Type 1} → statement M
 band-fit-spec =
@@ -42,7 +44,7 @@ band-fit-spec =
     enum-known-refusal
     enum-told
     returns
-    sub-if2
+    has-pair-requires
     returns-2
     returns-3
     returns-4)
