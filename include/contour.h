@@ -1,5 +1,6 @@
 /*
- * Rings of a terrain of samples, their areas and containment: the C interface of libcontour_c.a.
+ * Rings of a terrain of samples, their areas and containment, and the polygons with holes that they make:
+ * the C interface of libcontour_c.a.
  *
  * The library allocates nothing and keeps nothing between calls. The caller lends every table. A call
  * returns 0 and has done its work, or returns the number of a refusal. Every input has an answer: each
@@ -27,10 +28,22 @@
  * gives R and the number of points S + R too, which size the outputs. R is at most S / 4, for a caller who
  * would rather not ask twice. S is at most 2 * dx * dy + dx + dy, and H at most (dx + 2) / 2.
  *
+ * A contour takes the room of its rings. A band has two sets of rings, one for either threshold, and needs
+ * the larger H, the larger S, and the sums of the sets' points and rings. contour_band_first_report gives H
+ * and S, contour_band_second_report R and the number of points too, which is at most 2 * S + R here. R is at
+ * most S / 2.
+ *
+ * A directory record has four words: the number of the ring's first point, its number of points, its class
+ * and its owner. The class is 0 for a polygon, 1 for a hole and 2 for a bare ring. A polygon owns itself, and
+ * a hole has the record number of its polygon for owner. 4,294,967,295 is no owner: a bare ring has none, and
+ * a hole that belongs to no polygon is dropped.
+ *
  * Refusals. The lowest that applies is returned, alone:
  *
  *      1   a side is 0 or above 4,096
  *      2   the number of values is not dx * dy
+ *      3   a band's list has fewer than two thresholds
+ *      4   a band's list has no pair of thresholds k and k + 1
  *      5   the open table is short
  *      6   the link table is short
  *      7   the points are short
@@ -74,9 +87,8 @@ uint32_t contour_second_report(const double *values, size_t count, double thresh
  * Draws the rings of the terrain, in the order in which they close.
  *
  * Returns 0, sets *rings to R, and leaves zeros in the needed words of both work tables. The points of all
- * rings stand one ring after the other. The directory has four words a ring: the number of its first point,
- * its number of points, 2 for a bare ring, and 4,294,967,295 for no owner. Ring k begins at word
- * 2 * directory[4 * k] of the points and has 2 * directory[4 * k + 1] words.
+ * rings stand one ring after the other, and the directory has a record a ring, of class 2 and without owner.
+ * Ring k begins at word 2 * directory[4 * k] of the points and has 2 * directory[4 * k + 1] words.
  *
  * Or returns 1, 2, 5, 6, 7 or 8; points, directory and *rings then stay as they were.
  */
@@ -84,6 +96,59 @@ uint32_t contour_rings(const double *values, size_t count, double threshold, siz
                        uint32_t *lines, size_t lines_words, uint32_t *links, size_t links_words,
                        uint16_t *points, size_t points_words, uint32_t *directory, size_t directory_words,
                        uint32_t *rings);
+
+/*
+ * Draws the contour of the terrain: the rings of contour_rings, in the same order, as polygons and holes. A
+ * ring is a polygon when its area is above 0. A hole belongs to the first polygon whose contour_contains for
+ * it is not -1.
+ *
+ * Returns and leaves what contour_rings does, but for class and owner in the directory.
+ */
+uint32_t contour_contours(const double *values, size_t count, double threshold, size_t dx, size_t dy,
+                          uint32_t *lines, size_t lines_words, uint32_t *links, size_t links_words,
+                          uint16_t *points, size_t points_words, uint32_t *directory, size_t directory_words,
+                          uint32_t *rings);
+
+/*
+ * Counts for the band of thresholds k and k + 1, counted from 0 in the list, with no table at all. The
+ * thresholds may be in any order, equal, NaN or infinite.
+ *
+ * Returns 0 and sets *segments to the larger S and *peak to the larger H of the two sets of rings; or
+ * returns 1, 2, 3 or 4.
+ */
+uint32_t contour_band_first_report(const double *values, size_t count, const double *thresholds,
+                                   size_t thresholds_count, size_t k, size_t dx, size_t dy, uint32_t *segments,
+                                   uint32_t *peak);
+
+/*
+ * Counts for a band with both work tables.
+ *
+ * Returns 0, sets *segments to the larger S, *rings to the sum of R, *peak to the larger H and *points to
+ * the points of both sets together, and leaves zeros in the needed words of both work tables; or returns 1,
+ * 2, 3, 4, 5 or 6.
+ */
+uint32_t contour_band_second_report(const double *values, size_t count, const double *thresholds,
+                                    size_t thresholds_count, size_t k, size_t dx, size_t dy, uint32_t *lines,
+                                    size_t lines_words, uint32_t *links, size_t links_words, uint32_t *segments,
+                                    uint32_t *rings, uint32_t *peak, uint32_t *points);
+
+/*
+ * Draws the band of thresholds k and k + 1, counted from 0 in the list: the rings of both, as polygons and
+ * interior rings.
+ *
+ * Returns 0, sets *rings to the number of rings of both sets, and leaves zeros in the needed words of both
+ * work tables. The points stand lower set first, then upper, each in the order of contour_rings. The records
+ * are sorted by the rings' |area| / 4, rounded down, the least first; equal ones stay in the order of their
+ * points. A ring is a polygon when an even number of the other rings have a contour_contains for it that is
+ * not -1, else an interior, of class 1. An interior belongs to the first polygon in this order whose
+ * contour_contains for it is not -1.
+ *
+ * Or returns 1, 2, 3, 4, 5, 6, 7 or 8; points, directory and *rings then stay as they were.
+ */
+uint32_t contour_isobands(const double *values, size_t count, const double *thresholds, size_t thresholds_count,
+                          size_t k, size_t dx, size_t dy, uint32_t *lines, size_t lines_words, uint32_t *links,
+                          size_t links_words, uint16_t *points, size_t points_words, uint32_t *directory,
+                          size_t directory_words, uint32_t *rings);
 
 /*
  * The area of a ring: the sum over i of y(i-1) * x(i) - x(i-1) * y(i), the last point standing before the

@@ -1,5 +1,5 @@
-//! Times the crate and our library on the same terrains, in one run and turn by turn, and the time to read
-//! the values once.
+//! Times our library, and beside it in one run and turn by turn the crate or our own rings, and the time to
+//! read the values once.
 
 /// The functions of our library, declared once for all who call it from Rust.
 #[allow(dead_code)]
@@ -7,15 +7,17 @@
 mod declared;
 mod ours;
 mod terrains;
+mod theirs;
 
+use ours::Drawn;
 use std::time::{Duration, Instant};
-use terrains::Terrain;
+use terrains::{Against, Figure, Line, Terrain};
 
 const RUNS: usize = 5;
 
-/// The median times of one terrain, and what the plain pass counted.
+/// The median times of one line, and what the plain pass counted.
 struct Times {
-    theirs: Duration,
+    other: Duration,
     ours: Duration,
     pass: Duration,
     above: usize,
@@ -30,59 +32,84 @@ fn main() {
             std::process::exit(2);
         }
     };
-    let mut ratios = Vec::new();
-    for (name, make) in terrains::ALL {
-        let terrain = make();
-        let (segments, rings) = check(name, &terrain);
-        let times = measure(&terrain, runs);
-        println!(
-            "{name}: {} by {}, {} above, S {segments}, R {rings}: crate {}, ours {}, one pass {}",
-            terrain.dx,
-            terrain.dy,
-            times.above,
-            shown(times.theirs),
-            shown(times.ours),
-            shown(times.pass)
-        );
-        ratios.push((name, times.theirs.as_secs_f64() / times.ours.as_secs_f64()));
+    let has_regions = cfg!(feature = "regions");
+    let lines = terrains::LINES.into_iter();
+    let closing: Vec<String> = lines
+        .filter(|(_, _, figure, _)| has_regions || matches!(figure, Figure::Rings(_)))
+        .map(|line| bench(line, runs))
+        .collect();
+    if !has_regions {
+        println!("contours and bands are not in the library: not timed");
     }
-    for (name, ratio) in ratios {
-        println!("ratio {name} {ratio:.2}");
+    for line in closing {
+        println!("{line}");
     }
 }
 
-/// Both sides draw the same rings, or there is nothing to time. Returns S and R.
-fn check(name: &str, terrain: &Terrain) -> (usize, usize) {
-    let rings = terrain.crate_rings();
-    let (points, directory) = ours::draw(terrain);
-    let words = rings
-        .iter()
-        .flatten()
-        .flat_map(|p| [p.x, p.y].map(|half| (2.0 * half) as u16));
-    let counts = rings.iter().map(|ring| ring.len() as u32);
-    let same = words.eq(points) && counts.eq(directory.chunks_exact(4).map(|record| record[1]));
-    assert!(
-        same,
-        "{name}: the crate and our library draw different rings"
+/// Prints the times of a line and returns the line to close with.
+fn bench((name, make, figure, against): Line, runs: usize) -> String {
+    let terrain = make();
+    let (points, rings) = check(name, &terrain, figure, against);
+    let times = measure(&terrain, figure, against, runs);
+    let (other, quotient, over) = match against {
+        Against::Crate => ("crate", "ratio", [times.other, times.ours]),
+        Against::OurRings => ("our rings", "times", [times.ours, times.other]),
+    };
+    println!(
+        "{name}: {} by {}, {} above, S {}, R {rings}: {other} {}, ours {}, one pass {}",
+        terrain.dx,
+        terrain.dy,
+        times.above,
+        points - rings,
+        shown(times.other),
+        shown(times.ours),
+        shown(times.pass)
     );
-    let points: usize = rings.iter().map(Vec::len).sum();
-    (points - rings.len(), rings.len())
+    let [over, under] = over.map(|time| time.as_secs_f64());
+    format!("{quotient} {name} {:.2}", over / under)
+}
+
+/// Both sides draw the same, or there is nothing to time: the same rings or polygons where the crate is
+/// asked, else the same points. Returns how many points and rings there are.
+fn check(name: &str, terrain: &Terrain, figure: Figure, against: Against) -> (usize, usize) {
+    let drawn = ours::draw(terrain, figure);
+    let same = match against {
+        Against::Crate => theirs::draw(terrain, figure).groups() == theirs::groups_of(&drawn),
+        Against::OurRings => {
+            let sets = our_rings(terrain, figure);
+            let words = sets.iter().flat_map(Drawn::words);
+            words.eq(drawn.words())
+        }
+    };
+    assert!(same, "{name}: the two sides draw different things");
+    (drawn.words().len() / 2, drawn.records().count())
+}
+
+/// Our rings at each threshold.
+fn our_rings(terrain: &Terrain, figure: Figure) -> Vec<Drawn> {
+    let thresholds = figure.thresholds().iter();
+    thresholds
+        .map(|&threshold| ours::draw(terrain, Figure::Rings(threshold)))
+        .collect()
 }
 
 /// Each side in turn, so that a disturbance meets both. What a call gave is given up after its time is
 /// taken.
-fn measure(terrain: &Terrain, runs: usize) -> Times {
-    let (mut theirs, mut ours, mut pass) = (Vec::new(), Vec::new(), Vec::new());
+fn measure(terrain: &Terrain, figure: Figure, against: Against, runs: usize) -> Times {
+    let (mut other, mut ours, mut pass) = (Vec::new(), Vec::new(), Vec::new());
     let mut above = 0;
     for _ in 0..runs {
-        theirs.push(timed(|| terrain.crate_rings()).0);
-        ours.push(timed(|| ours::draw(terrain)).0);
-        let (time, counted) = timed(|| terrain.count_above());
+        other.push(match against {
+            Against::Crate => timed(|| theirs::draw(terrain, figure)).0,
+            Against::OurRings => timed(|| our_rings(terrain, figure)).0,
+        });
+        ours.push(timed(|| ours::draw(terrain, figure)).0);
+        let (time, counted) = timed(|| terrain.count_above(figure.thresholds()[0]));
         pass.push(time);
         above = counted;
     }
     Times {
-        theirs: median(theirs),
+        other: median(other),
         ours: median(ours),
         pass: median(pass),
         above,

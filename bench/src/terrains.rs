@@ -1,70 +1,99 @@
-//! The terrains, each with one threshold. The noise comes from a fixed seed.
+//! The terrains, what is drawn of each, and what it is held against. The noise comes from a fixed seed.
+
+use Against::{Crate, OurRings};
+use Figure::{Band, Contours, Rings};
 
 pub struct Terrain {
     pub dx: usize,
     pub dy: usize,
     pub values: Vec<f64>,
-    pub threshold: f64,
 }
 
-/// Names and terrains, made when they are due, since the largest takes 128 MiB.
-pub const ALL: [(&str, fn() -> Terrain); 5] = [
-    ("cone-2048", || cone(2_048)),
-    ("waves-2048", || waves(2_048)),
-    ("noise-2048", || noise(2_048, 2_048)),
-    ("cone-4096", || cone(4_096)),
-    ("noise-4-4096", || noise(4, 4_096)),
+/// What is drawn of a terrain, and at which thresholds.
+#[derive(Clone, Copy)]
+pub enum Figure {
+    Rings(f64),
+    Contours(f64),
+    Band([f64; 2]),
+}
+
+impl Figure {
+    pub fn thresholds(&self) -> &[f64] {
+        match self {
+            Figure::Rings(threshold) | Figure::Contours(threshold) => {
+                std::slice::from_ref(threshold)
+            }
+            Figure::Band(pair) => pair,
+        }
+    }
+}
+
+/// What the time of our build is held against.
+#[derive(Clone, Copy, PartialEq)]
+pub enum Against {
+    /// The crate's time for the same.
+    Crate,
+    /// Our own time for the rings at each threshold.
+    OurRings,
+}
+
+/// A line of the bench: its name, its terrain, and what is timed. The terrain is made when it is due, since
+/// the largest takes 128 MiB.
+pub type Line = (&'static str, fn() -> Terrain, Figure, Against);
+
+#[rustfmt::skip]
+pub const LINES: [Line; 12] = [
+    ("cone-2048", || cone(2_048), Rings(204.8), Crate),
+    ("waves-2048", || waves(2_048), Rings(0.1), Crate),
+    ("noise-2048", || noise(2_048, 2_048), Rings(0.5), Crate),
+    ("cone-4096", || cone(4_096), Rings(409.6), Crate),
+    ("noise-4-4096", || noise(4, 4_096), Rings(0.5), Crate),
+    ("contours-half-256", || noise(256, 256), Contours(0.5), Crate),
+    ("contours-half-2048", || noise(2_048, 2_048), Contours(0.5), OurRings),
+    ("contours-three-quarters-2048", || noise(2_048, 2_048), Contours(0.25), OurRings),
+    ("bands-128", || noise(128, 128), Band([0.5, 0.6]), Crate),
+    ("bands-1024", || noise(1_024, 1_024), Band([0.5, 0.6]), OurRings),
+    ("contours-waves-2048", || waves(2_048), Contours(0.1), Crate),
+    ("bands-waves-2048", || waves(2_048), Band([0.1, 0.6]), Crate),
 ];
 
 impl Terrain {
-    fn new(
-        dx: usize,
-        dy: usize,
-        threshold: f64,
-        mut height: impl FnMut(usize, usize) -> f64,
-    ) -> Self {
+    fn new(dx: usize, dy: usize, mut height: impl FnMut(usize, usize) -> f64) -> Self {
         Terrain {
             dx,
             dy,
             values: (0..dx * dy).map(|k| height(k % dx, k / dx)).collect(),
-            threshold,
         }
     }
 
-    pub fn crate_rings(&self) -> Vec<contour::Ring> {
-        contour::contour_rings(&self.values, self.threshold, self.dx, self.dy)
-            .expect("the crate draws every grid with all its values")
-    }
-
-    /// One plain pass over the values.
-    pub fn count_above(&self) -> usize {
-        self.values
-            .iter()
-            .filter(|&&value| value >= self.threshold)
-            .count()
+    /// One plain pass over the values: how many are above.
+    pub fn count_above(&self, threshold: f64) -> usize {
+        let values = self.values.iter();
+        values.filter(|&&value| value >= threshold).count()
     }
 }
 
-/// A cone about the centre, cut where its circle has four fifths of the side for a diameter: few crossings.
+/// A cone about the centre. A fifth of its height cuts it in one circle, whose diameter is four fifths of the
+/// side: few crossings.
 fn cone(side: usize) -> Terrain {
     let middle = side as f64 / 2.0;
-    Terrain::new(side, side, 0.2 * middle, |x, y| {
+    Terrain::new(side, side, |x, y| {
         middle - (x as f64 - middle).hypot(y as f64 - middle)
     })
 }
 
 /// Waves that cross each other: hills, dales and passes some dozens of samples wide.
 fn waves(side: usize) -> Terrain {
-    Terrain::new(side, side, 0.1, |x, y| {
+    Terrain::new(side, side, |x, y| {
         let (x, y) = (x as f64, y as f64);
         (x / 9.0).sin() * (y / 11.0).cos() + 0.4 * ((x + 2.0 * y) / 31.0).sin()
     })
 }
 
-/// Uniform noise from 0 to 1, cut in the middle: every other sample pair is crossed.
+/// Uniform noise from 0 to 1. Cut in the middle, every other sample pair is crossed.
 fn noise(dx: usize, dy: usize) -> Terrain {
     let mut state = 0x6E6F_6973_65u64;
-    Terrain::new(dx, dy, 0.5, |_, _| {
+    Terrain::new(dx, dy, |_, _| {
         state = state.wrapping_add(0x9E37_79B9_7F4A_7C15);
         let mut z = state;
         z = (z ^ (z >> 30)).wrapping_mul(0xBF58_476D_1CE4_E5B9);

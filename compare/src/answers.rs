@@ -50,14 +50,9 @@ fn named() -> impl Iterator<Item = Grid> {
         (12, 11, |x, y| (x + y) % 4 < 2),
     ];
     let shaped = twelve.into_iter().map(|rule| (12, 12, rule));
-    shaped.chain(thin).map(|(dx, dy, rule)| Grid {
-        dx,
-        dy,
-        values: (0..dx * dy)
-            .map(|k| f64::from(u8::from(rule(k % dx, k / dx))))
-            .collect(),
-        threshold: 1.0,
-    })
+    shaped
+        .chain(thin)
+        .map(|(dx, dy, rule)| Grid::new(dx, dy, 1.0, |x, y| f64::from(u8::from(rule(x, y)))))
 }
 
 /// How far a sample of a 12 by 12 terrain is from the nearest side.

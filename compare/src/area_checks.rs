@@ -66,7 +66,7 @@ pub fn thin_grids(tally: &mut Tally, random: &mut Random) {
         let grid = Grid {
             dx,
             dy,
-            values: vec![1.0; LONGEST_SIDE],
+            values: vec![1.0; LONGEST_SIDE].into(),
             threshold: 1.0,
         };
         compare_grid(tally, random, &grid, &share);

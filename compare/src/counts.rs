@@ -8,7 +8,7 @@ const DRAWN: [usize; 16] = [0, 1, 1, 1, 1, 2, 1, 1, 1, 1, 2, 1, 1, 1, 1, 0];
 
 /// The segments drawn, and the peak of open lines: the largest half-count of crossed sample pairs that a
 /// finished and an unfinished cell share, after any cell.
-#[derive(Clone, Copy)]
+#[derive(Clone, Copy, Default)]
 pub struct Counts {
     pub segments: usize,
     pub peak: usize,
@@ -34,6 +34,14 @@ impl Counts {
             }
         }
         Counts { segments, peak }
+    }
+
+    /// The larger of each.
+    pub fn larger(self, other: Self) -> Self {
+        Counts {
+            segments: self.segments.max(other.segments),
+            peak: self.peak.max(other.peak),
+        }
     }
 }
 

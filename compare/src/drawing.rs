@@ -1,62 +1,71 @@
 //! What document 01 and the crate say of a terrain: the counts, the rings as table words, and from these
 //! the room, the answer and the final tables of every call.
 
+use crate::asked::Asked;
 use crate::counts::Counts;
-use crate::entries::{Entry, Lent, Room, Table, PEAK, POINTS, RINGS, SEGMENTS};
-use crate::rings::Grid;
-
-const LONGEST_SIDE: usize = 4_096;
-/// The class of a bare ring, and the owner of what has none.
-const BARE: u32 = 2;
-const NOBODY: u32 = 4_294_967_295;
+use crate::directory::directory;
+use crate::entries::{Entry, Step};
+use crate::lent::{Lent, Room, Table, PEAK, POINTS, RINGS, SEGMENTS};
 
 pub struct Drawing {
+    /// S and H; of a band the larger of its two sets'.
     pub counts: Counts,
-    /// All rings' words, one ring after the other.
+    /// All rings' words, one ring after the other; of a band the lower set's first.
     points: Vec<u16>,
     directory: Vec<u32>,
     dx: usize,
 }
 
 impl Drawing {
-    /// S and H from the samples, everything else from the crate's rings.
-    pub fn of(grid: &Grid) -> Self {
-        let (mut points, mut directory) = (Vec::new(), Vec::new());
-        for ring in grid.rings() {
-            let (first, count) = (points.len() / 2, ring.points.len());
-            directory.extend([first as u32, count as u32, BARE, NOBODY]);
-            points.extend(ring.words);
+    /// S and H from the samples, everything else from the crate. There is none where the call is refused
+    /// whatever the room.
+    pub fn of(asked: &Asked) -> Option<Self> {
+        if asked.refusal() != 0 {
+            return None;
         }
-        let drawing = Drawing {
-            counts: Counts::of(grid),
-            points,
-            directory,
-            dx: grid.dx,
-        };
-        let stated = drawing.counts.segments + drawing.rings();
-        assert!(drawing.points.len() == 2 * stated, "points are not S + R");
-        drawing
+        let (mut counts, mut rings) = (Counts::default(), Vec::new());
+        for set in asked.sets() {
+            let (counted, drawn) = (Counts::of(&set), set.rings());
+            let points: usize = drawn.iter().map(|ring| ring.points.len()).sum();
+            let stated = counted.segments + drawn.len();
+            assert!(points == stated, "points are not S + R");
+            counts = counts.larger(counted);
+            rings.extend(drawn);
+        }
+        Some(Drawing {
+            counts,
+            directory: directory(asked, &rings),
+            points: rings.into_iter().flat_map(|ring| ring.words).collect(),
+            dx: asked.grid.dx,
+        })
     }
 
     pub fn rings(&self) -> usize {
         self.directory.len() / 4
     }
 
+    /// Each record's points, class and owner.
+    pub fn records(&self) -> impl Iterator<Item = (&[u16], u32, u32)> {
+        self.directory.chunks_exact(4).map(|record| {
+            let [first, count] = [record[0], record[1]].map(|number| 2 * number as usize);
+            (&self.points[first..first + count], record[2], record[3])
+        })
+    }
+
     /// The words that each table needs.
     pub fn need(&self) -> Room {
         let Counts { segments, peak } = self.counts;
-        let rings = self.rings();
         Room([
             4 * peak + self.dx + 2,
             2 * segments,
-            2 * (segments + rings),
-            4 * rings,
+            self.points.len(),
+            self.directory.len(),
         ])
     }
 
     /// Writes into a copy of what is lent what a call that answers this number leaves there.
     pub fn settle(&self, entry: Entry, number: u32, lent: &mut Lent) {
-        if entry != Entry::FirstReport && [0, 7, 8].contains(&number) {
+        if entry.step != Step::FirstReport && [0, 7, 8].contains(&number) {
             let need = self.need();
             for table in [Table::Lines, Table::Links] {
                 lent.table(table)[..need.of(table)].fill(0);
@@ -69,35 +78,29 @@ impl Drawing {
 
     fn settle_outputs(&self, entry: Entry, lent: &mut Lent) {
         let Counts { segments, peak } = self.counts;
-        if entry != Entry::Rings {
+        if entry.step != Step::Build {
             lent.set(SEGMENTS, segments as u32);
             lent.set(PEAK, peak as u32);
         }
-        if entry != Entry::FirstReport {
+        if entry.step != Step::FirstReport {
             lent.set(RINGS, self.rings() as u32);
         }
-        if entry == Entry::SecondReport {
+        if entry.step == Step::SecondReport {
             lent.set(POINTS, (self.points.len() / 2) as u32);
         }
-        if entry == Entry::Rings {
+        if entry.step == Step::Build {
             lent.points()[..self.points.len()].copy_from_slice(&self.points);
             lent.table(Table::Directory)[..self.directory.len()].copy_from_slice(&self.directory);
         }
     }
 }
 
-/// The lowest refusal that applies to a call, or 0. There is a drawing unless refusal 1 or 2 applies.
-pub fn answer(entry: Entry, grid: &Grid, room: Room, drawing: Option<&Drawing>) -> u32 {
-    if [grid.dx, grid.dy]
-        .iter()
-        .any(|&side| side == 0 || side > LONGEST_SIDE)
-    {
-        return 1;
-    }
-    if grid.values.len() != grid.dx * grid.dy {
-        return 2;
-    }
-    let need = drawing.expect("a drawing of a grid that passes").need();
+/// The lowest refusal that applies to a call, or 0.
+pub fn answer(entry: Entry, asked: &Asked, room: Room, drawing: Option<&Drawing>) -> u32 {
+    let need = match drawing {
+        Some(drawing) => drawing.need(),
+        None => return asked.refusal(),
+    };
     let short = entry
         .tables()
         .iter()

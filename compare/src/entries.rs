@@ -1,249 +1,107 @@
-//! Calls of the two reports and of `contour_rings`. All that a call may write stands in one sheet of
-//! words, table beside table, with guard words before, between and behind them, and is compared whole.
+//! The entries that draw, and their calls with what they are asked and the tables that they are lent.
 
-use crate::declared::{contour_first_report, contour_rings, contour_second_report};
-use crate::random::Random;
+use crate::asked::Asked;
+use crate::declared::*;
+use crate::lent::{Lent, Table, DIRECTORY, LINES, LINKS, PEAK, POINTS, RINGS, SEGMENTS};
 use crate::rings::Grid;
-use std::ops::Range;
+
+/// What is drawn.
+#[derive(Clone, Copy, PartialEq)]
+pub enum Kind {
+    Rings,
+    Contours,
+    Bands,
+}
+
+impl Kind {
+    /// Its entries. The reports of contours are those of rings.
+    pub fn entries(self) -> impl Iterator<Item = Entry> {
+        let steps: &[Step] = match self {
+            Kind::Contours => &[Step::Build],
+            _ => &[Step::FirstReport, Step::SecondReport, Step::Build],
+        };
+        steps.iter().map(move |&step| Entry { kind: self, step })
+    }
+}
 
 #[derive(Clone, Copy, PartialEq)]
-pub enum Entry {
+pub enum Step {
     FirstReport,
     SecondReport,
-    Rings,
+    Build,
+}
+
+#[derive(Clone, Copy, PartialEq)]
+pub struct Entry {
+    pub kind: Kind,
+    pub step: Step,
 }
 
 impl Entry {
-    pub const ALL: [Entry; 3] = [Entry::FirstReport, Entry::SecondReport, Entry::Rings];
-
     /// The tables that it is lent, in the order of their refusals.
     pub fn tables(self) -> &'static [Table] {
-        match self {
-            Entry::FirstReport => &[],
-            Entry::SecondReport => &Table::ALL[..2],
-            Entry::Rings => &Table::ALL,
+        match self.step {
+            Step::FirstReport => &[],
+            Step::SecondReport => &Table::ALL[..2],
+            Step::Build => &Table::ALL,
         }
     }
 
     pub fn name(self) -> &'static str {
-        match self {
-            Entry::FirstReport => "contour_first_report",
-            Entry::SecondReport => "contour_second_report",
-            Entry::Rings => "contour_rings",
+        match (self.kind, self.step) {
+            (Kind::Bands, Step::FirstReport) => "contour_band_first_report",
+            (Kind::Bands, Step::SecondReport) => "contour_band_second_report",
+            (_, Step::FirstReport) => "contour_first_report",
+            (_, Step::SecondReport) => "contour_second_report",
+            (Kind::Rings, Step::Build) => "contour_rings",
+            (Kind::Contours, Step::Build) => "contour_contours",
+            (Kind::Bands, Step::Build) => "contour_isobands",
         }
     }
 }
 
-#[derive(Clone, Copy, PartialEq)]
-pub enum Table {
-    Lines,
-    Links,
-    Points,
-    Directory,
-}
-
-impl Table {
-    pub const ALL: [Table; 4] = [Table::Lines, Table::Links, Table::Points, Table::Directory];
-}
-
-/// How many words of each table are lent, or needed.
-#[derive(Clone, Copy)]
-pub struct Room(pub [usize; 4]);
-
-impl Room {
-    pub fn of(self, table: Table) -> usize {
-        self.0[table as usize]
-    }
-}
-
-/// A terrain as it is lent: the values between guard samples, which are above every threshold that has any
-/// above it. The number of values need not be that of the sides.
-pub struct Asked<'a> {
-    pub grid: &'a Grid,
-    values: Vec<f64>,
-}
-
-impl<'a> Asked<'a> {
-    pub fn new(grid: &'a Grid) -> Self {
-        let guards = [f64::INFINITY; GUARDS];
-        let values = [&guards, &grid.values[..], &guards].concat();
-        Asked { grid, values }
-    }
-
-    /// Whether the values and the guards are, bit for bit, what they were.
-    pub fn is_still(&self) -> bool {
-        let guards = [f64::INFINITY; GUARDS];
-        let all = guards.iter().chain(&self.grid.values).chain(&guards);
-        all.map(|value| value.to_bits())
-            .eq(self.values.iter().map(|value| value.to_bits()))
-    }
-
-    fn at(&self) -> *const f64 {
-        self.values[GUARDS..].as_ptr()
-    }
-}
-
-const GUARD: u32 = 0xC0DE_CA5E;
-const GUARDS: usize = 4;
-/// Stands in each output before a call: no count comes near it.
-const UNSET: u32 = 0x5A5A_5A5A;
-/// The places of the sheet: three tables and four outputs.
-const NAMES: [&str; 7] = [
-    "open table",
-    "link table",
-    "directory",
-    "*segments",
-    "*rings",
-    "*peak",
-    "*points",
-];
-const LINES: usize = 0;
-const LINKS: usize = 1;
-const DIRECTORY: usize = 2;
-pub const SEGMENTS: usize = 3;
-pub const RINGS: usize = 4;
-pub const PEAK: usize = 5;
-pub const POINTS: usize = 6;
-
-/// All that a call may write.
-#[derive(Clone)]
-pub struct Lent {
-    words: Vec<u32>,
-    points: Vec<u16>,
-    room: Room,
-}
-
-impl Lent {
-    /// Tables of this room, with zeros, ones, small numbers or any numbers in them.
-    pub fn new(random: &mut Random, room: Room) -> Self {
-        let end = places(room)[POINTS].end + GUARDS;
-        let mut lent = Lent {
-            words: vec![GUARD; end],
-            points: vec![GUARD as u16; room.of(Table::Points) + 2 * GUARDS],
-            room,
-        };
-        let kind = random.below(4);
-        let mut filler = || match kind {
-            0 => 0,
-            1 => u64::MAX,
-            2 => random.next() % 9,
-            _ => random.next(),
-        };
-        for table in [Table::Lines, Table::Links, Table::Directory] {
-            lent.table(table).fill_with(|| filler() as u32);
-        }
-        lent.points().fill_with(|| filler() as u16);
-        for output in [SEGMENTS, RINGS, PEAK, POINTS] {
-            lent.set(output, UNSET);
-        }
-        lent
-    }
-
-    /// A table of 32-bit words.
-    pub fn table(&mut self, table: Table) -> &mut [u32] {
-        let place = match table {
-            Table::Lines => LINES,
-            Table::Links => LINKS,
-            Table::Directory => DIRECTORY,
-            Table::Points => unreachable!("the points are 16-bit words"),
-        };
-        &mut self.words[places(self.room)[place].clone()]
-    }
-
-    pub fn points(&mut self) -> &mut [u16] {
-        let end = self.points.len() - GUARDS;
-        &mut self.points[GUARDS..end]
-    }
-
-    /// Sets one of the four outputs.
-    pub fn set(&mut self, output: usize, number: u32) {
-        let place = places(self.room)[output].start;
-        self.words[place] = number;
-    }
-
-    /// Where a place of the sheet begins.
-    fn at(&mut self, place: usize) -> *mut u32 {
-        let start = places(self.room)[place].start;
-        unsafe { self.words.as_mut_ptr().add(start) }
-    }
-
-    /// The first word that is not as expected, in words.
-    pub fn difference(&self, expected: &Lent) -> Option<String> {
-        let word = |k: &usize| self.words[*k] != expected.words[*k];
-        if let Some(k) = (0..self.words.len()).find(word) {
-            let (wanted, got) = (expected.words[k], self.words[k]);
-            let place = named(k, &places(self.room));
-            return Some(format!("{place}: expected {wanted}, got {got}"));
-        }
-        let word = |k: &usize| self.points[*k] != expected.points[*k];
-        let k = (0..self.points.len()).find(word)?;
-        let (wanted, got) = (expected.points[k], self.points[k]);
-        let place = match k.checked_sub(GUARDS) {
-            Some(word) if word < self.room.of(Table::Points) => {
-                format!("word {word} of the points")
+/// Calls one of three functions, for rings, contours or a band, with what is asked and what else it takes.
+/// The last two are called only where the library has them.
+macro_rules! call {
+    ($asked:expr, [$rings:ident, $contours:ident, $band:ident], $($rest:expr),*) => {{
+        let Grid { threshold, dx, dy, .. } = *$asked.grid;
+        let (values, count) = ($asked.values.at(), $asked.values.count());
+        match $asked.kind {
+            Kind::Rings => unsafe { $rings(values, count, threshold, dx, dy, $($rest),*) },
+            #[cfg(feature = "regions")]
+            Kind::Contours => unsafe { $contours(values, count, threshold, dx, dy, $($rest),*) },
+            #[cfg(feature = "regions")]
+            Kind::Bands => {
+                let (list, k) = (&$asked.list, $asked.pair.map_or(0, |pair| pair.k));
+                unsafe { $band(values, count, list.at(), list.count(), k, dx, dy, $($rest),*) }
             }
-            _ => "a guard word beside the points".to_string(),
-        };
-        Some(format!("{place}: expected {wanted}, got {got}"))
-    }
-}
-
-fn places(room: Room) -> [Range<usize>; 7] {
-    let mut end = 0;
-    let [lines, links, _, directory] = room.0;
-    [lines, links, directory, 1, 1, 1, 1].map(|words| {
-        let start = end + GUARDS;
-        end = start + words;
-        start..end
-    })
-}
-
-/// The name of word k of the sheet.
-fn named(k: usize, places: &[Range<usize>; 7]) -> String {
-    match places.iter().position(|place| k < place.end) {
-        Some(at) if k >= places[at].start => match at {
-            0..=2 => format!("word {} of the {}", k - places[at].start, NAMES[at]),
-            _ => NAMES[at].to_string(),
-        },
-        Some(at) => format!("a guard word before the {}", NAMES[at]),
-        None => "a guard word behind all".to_string(),
-    }
+            #[cfg(not(feature = "regions"))]
+            _ => unreachable!("no contours and no bands in the library"),
+        }
+    }};
 }
 
 /// Calls an entry with what is lent and returns its number.
 pub fn call(entry: Entry, asked: &Asked, lent: &mut Lent) -> u32 {
-    match entry {
-        Entry::FirstReport => first_report(asked, lent),
-        Entry::SecondReport => second_report(asked, lent),
-        Entry::Rings => rings(asked, lent),
-    }
-}
-
-fn first_report(asked: &Asked, lent: &mut Lent) -> u32 {
-    let grid = asked.grid;
-    unsafe {
-        contour_first_report(
-            asked.at(),
-            grid.values.len(),
-            grid.threshold,
-            grid.dx,
-            grid.dy,
+    let [lines_words, links_words, points_words, directory_words] = lent.room.0;
+    match entry.step {
+        Step::FirstReport => call!(
+            asked,
+            [
+                contour_first_report,
+                contour_first_report,
+                contour_band_first_report
+            ],
             lent.at(SEGMENTS),
-            lent.at(PEAK),
-        )
-    }
-}
-
-fn second_report(asked: &Asked, lent: &mut Lent) -> u32 {
-    let grid = asked.grid;
-    let [lines_words, links_words, _, _] = lent.room.0;
-    unsafe {
-        contour_second_report(
-            asked.at(),
-            grid.values.len(),
-            grid.threshold,
-            grid.dx,
-            grid.dy,
+            lent.at(PEAK)
+        ),
+        Step::SecondReport => call!(
+            asked,
+            [
+                contour_second_report,
+                contour_second_report,
+                contour_band_second_report
+            ],
             lent.at(LINES),
             lines_words,
             lent.at(LINKS),
@@ -251,21 +109,11 @@ fn second_report(asked: &Asked, lent: &mut Lent) -> u32 {
             lent.at(SEGMENTS),
             lent.at(RINGS),
             lent.at(PEAK),
-            lent.at(POINTS),
-        )
-    }
-}
-
-fn rings(asked: &Asked, lent: &mut Lent) -> u32 {
-    let grid = asked.grid;
-    let [lines_words, links_words, points_words, directory_words] = lent.room.0;
-    unsafe {
-        contour_rings(
-            asked.at(),
-            grid.values.len(),
-            grid.threshold,
-            grid.dx,
-            grid.dy,
+            lent.at(POINTS)
+        ),
+        Step::Build => call!(
+            asked,
+            [contour_rings, contour_contours, contour_isobands],
             lent.at(LINES),
             lines_words,
             lent.at(LINKS),
@@ -274,7 +122,7 @@ fn rings(asked: &Asked, lent: &mut Lent) -> u32 {
             points_words,
             lent.at(DIRECTORY),
             directory_words,
-            lent.at(RINGS),
-        )
+            lent.at(RINGS)
+        ),
     }
 }

@@ -1,11 +1,13 @@
-//! Refusals 1 and 2 of the reports and of `contour_rings`: at their bounds, together with each other and
-//! with tables that are short too.
+//! Refusals 1 to 4 of everything that draws: at their bounds, together with each other and with tables that
+//! are short too.
 
+use crate::asked::Asked;
+use crate::calls::compare_rooms;
 use crate::drawing::Drawing;
-use crate::entries::{Asked, Entry, Room};
+use crate::entries::Kind;
+use crate::lent::Room;
 use crate::random::Random;
-use crate::ring_checks::{compare_call, compare_values, lent_to};
-use crate::rings::Grid;
+use crate::rings::{Grid, Pair};
 use crate::tally::Tally;
 
 /// The sides that draw refusal 1, with sides that pass among them. The products of the last few pass the
@@ -23,27 +25,48 @@ const SIDES: [usize; 11] = [
     1 << 63,
     usize::MAX,
 ];
-/// The most values that are lent for a refused call.
+/// The places in a list that are asked for: those of the list, the first few behind it, and those where the
+/// place after passes the word's end.
+const PLACES: [usize; 9] = [0, 1, 2, 3, 4, 1 << 32, 1 << 63, usize::MAX - 1, usize::MAX];
+/// The most values that are lent for a refused call. The crate takes long over the regions of many rings.
 const MOST_VALUES: usize = 20_000;
+const MOST_REGION_VALUES: usize = 1_000;
 const TRIES: usize = 20_000;
 
 /// Every pair of sides with the counts about their product.
-pub fn listed(tally: &mut Tally, random: &mut Random) {
+pub fn listed(tally: &mut Tally, random: &mut Random, kind: Kind) {
     for dx in SIDES {
         for dy in SIDES {
             let product = dx.wrapping_mul(dy);
             let about = [product.wrapping_sub(1), product, product.wrapping_add(1)];
             for count in about.into_iter().chain([0, 1, dx, dy]) {
-                if count <= MOST_VALUES {
-                    compare_count(tally, random, dx, dy, count);
-                }
+                compare_count(tally, random, kind, [dx, dy, count]);
+            }
+        }
+    }
+}
+
+/// Lists of none to three thresholds with every place, on terrains that pass and on some that do not.
+pub fn listed_pairs(tally: &mut Tally, random: &mut Random) {
+    for [dx, dy, count] in [
+        [3, 3, 9],
+        [1, 1, 1],
+        [3, 3, 8],
+        [0, 3, 0],
+        [4_097, 1, 4_097],
+    ] {
+        let grid = speckled(random, [dx, dy, count]);
+        for list in [&[][..], &[1.0], &[0.5, 1.0], &[1.0, 1.0, f64::NAN]] {
+            for k in PLACES {
+                let list = list.to_vec();
+                compare_grid(tally, random, &Asked::band(&grid, &Pair { list, k }));
             }
         }
     }
 }
 
 /// Small sides, counts and rooms, each of which is often wrong.
-pub fn mixed(tally: &mut Tally, random: &mut Random) {
+pub fn mixed(tally: &mut Tally, random: &mut Random, kind: Kind) {
     for _ in 0..TRIES {
         let [dx, dy] = [0; 2].map(|_| match random.below(8) {
             0 => 0,
@@ -57,32 +80,49 @@ pub fn mixed(tally: &mut Tally, random: &mut Random) {
             2 => random.below(40),
             _ => product,
         };
-        if count <= MOST_VALUES {
-            compare_count(tally, random, dx, dy, count);
-        }
+        compare_count(tally, random, kind, [dx, dy, count]);
     }
 }
 
-/// A terrain of so many values: every entry with no room, with little, and with what it needs.
-fn compare_count(tally: &mut Tally, random: &mut Random, dx: usize, dy: usize, count: usize) {
+/// A terrain of so many columns, rows and values, if these are not too many; for a band a list of none to
+/// four thresholds and a place that it often has.
+fn compare_count(tally: &mut Tally, random: &mut Random, kind: Kind, shape: [usize; 3]) {
+    let most = match kind {
+        Kind::Rings => MOST_VALUES,
+        _ => MOST_REGION_VALUES,
+    };
+    if shape[2] > most {
+        return;
+    }
+    let grid = speckled(random, shape);
+    if kind == Kind::Bands {
+        let list = (0..random.below(5)).map(|_| random.pick(&[0.0, 1.0, 2.0, f64::NAN]));
+        let list = list.collect();
+        let k = random
+            .pick(&PLACES[..])
+            .min(random.pick(&[1, 2, usize::MAX]));
+        compare_grid(tally, random, &Asked::band(&grid, &Pair { list, k }));
+    } else {
+        compare_grid(tally, random, &Asked::new(kind, &grid));
+    }
+}
+
+fn speckled(random: &mut Random, [dx, dy, count]: [usize; 3]) -> Grid {
     let few = random.between(1, 9);
-    let grid = Grid {
+    Grid {
         dx,
         dy,
         values: (0..count)
             .map(|_| f64::from(u8::from(random.once_in(few))))
             .collect(),
         threshold: 1.0,
-    };
-    let passes = [dx, dy].iter().all(|side| (1..=4_096).contains(side)) && count == dx * dy;
-    let drawing = passes.then(|| Drawing::of(&grid));
-    let asked = Asked::new(&grid);
-    let ample = drawing.as_ref().map_or(Room([30; 4]), Drawing::need);
-    for entry in Entry::ALL {
-        for room in [Room([0; 4]), Room([3; 4]), ample] {
-            let room = lent_to(entry, room);
-            compare_call(tally, random, entry, &asked, room, drawing.as_ref());
-        }
     }
-    compare_values(tally, &asked);
+}
+
+/// Every entry with no room, with little, and with what it needs.
+fn compare_grid(tally: &mut Tally, random: &mut Random, asked: &Asked) {
+    let drawing = Drawing::of(asked);
+    let ample = drawing.as_ref().map_or(Room([30; 4]), Drawing::need);
+    let rooms = [Room([0; 4]), Room([3; 4]), ample];
+    compare_rooms(tally, random, asked, drawing.as_ref(), &rooms);
 }

@@ -3,15 +3,25 @@
 
 mod answers;
 mod area_checks;
+mod asked;
 mod bounds;
+mod calls;
 mod counts;
+mod directory;
+mod drawing;
+mod entries;
 mod exact;
 mod ffi;
+mod grid_refusals;
+mod lent;
 mod lists;
+mod nested;
 mod oracle;
 mod printed;
 mod random;
 mod refusals;
+mod region_checks;
+mod ring_checks;
 mod rings;
 mod tally;
 
@@ -20,15 +30,7 @@ mod tally;
 #[path = "../../bindings/rust/src/ffi.rs"]
 mod declared;
 
-#[cfg(feature = "rings")]
-mod drawing;
-#[cfg(feature = "rings")]
-mod entries;
-#[cfg(feature = "rings")]
-mod grid_refusals;
-#[cfg(feature = "rings")]
-mod ring_checks;
-
+use entries::Kind;
 use random::Random;
 use std::process::ExitCode;
 use tally::Tally;
@@ -43,9 +45,12 @@ const SEED: u64 = 0x636F_6E74_6F75_7273;
 enum Task {
     /// Write the crate's answers to this file.
     Answers(String),
-    /// Compare in so many rounds, and compare what programs printed: their names and files.
-    Compare(u64, Vec<(String, String)>),
+    /// Compare in so many rounds, and compare what programs printed.
+    Compare(u64, Vec<Printed>),
 }
+
+/// What a program printed: the example, whose program it is, and the file.
+type Printed = [String; 3];
 
 fn main() -> ExitCode {
     match task(std::env::args().skip(1)) {
@@ -61,6 +66,7 @@ fn main() -> ExitCode {
             let mut tally = Tally::default();
             compare_area_and_contains(&mut tally, rounds);
             compare_rings(&mut tally, rounds);
+            compare_regions(&mut tally, rounds);
             compare_printed(&mut tally, &programs);
             ExitCode::from(if tally.close() { 0 } else { 1 })
         }
@@ -76,8 +82,9 @@ fn task(mut words: impl Iterator<Item = String>) -> Result<Task, &'static str> {
                 return Ok(Task::Answers(file));
             }
             "--printed" => {
-                let pair = words.next().zip(words.next());
-                programs.push(pair.ok_or("--printed takes a name and a file")?);
+                let three: Vec<String> = words.by_ref().take(3).collect();
+                let three = three.try_into();
+                programs.push(three.map_err(|_| "--printed takes an example, a name and a file")?);
             }
             number => {
                 rounds = number.parse().unwrap_or(0);
@@ -111,7 +118,6 @@ fn compare_area_and_contains(tally: &mut Tally, rounds: u64) {
     });
 }
 
-#[cfg(feature = "rings")]
 fn compare_rings(tally: &mut Tally, rounds: u64) {
     let random = &mut Random::new(SEED + 1);
     let mut grids = 0;
@@ -119,7 +125,7 @@ fn compare_rings(tally: &mut Tally, rounds: u64) {
         grids += ring_checks::all_small_grids(t, random)
     });
     tally.part("rings, refusals 1 and 2", |t| {
-        grid_refusals::listed(t, random)
+        grid_refusals::listed(t, random, Kind::Rings)
     });
     for _ in 0..rounds {
         tally.part("rings, small grids", |t| {
@@ -132,7 +138,7 @@ fn compare_rings(tally: &mut Tally, rounds: u64) {
             grids += ring_checks::thin_grids(t, random)
         });
         tally.part("rings, several refusals at once", |t| {
-            grid_refusals::mixed(t, random)
+            grid_refusals::mixed(t, random, Kind::Rings)
         });
         tally.part("rings, about words and tiles", |t| {
             grids += ring_checks::words_and_tiles(t, random)
@@ -144,18 +150,64 @@ fn compare_rings(tally: &mut Tally, rounds: u64) {
     tally.note(&format!("the rings of {grids} grids in every kind of room"));
 }
 
-/// The library ends with area and containment.
-#[cfg(not(feature = "rings"))]
-fn compare_rings(tally: &mut Tally, _rounds: u64) {
-    tally.note("contour_rings is not in the library: not compared");
+fn compare_regions(tally: &mut Tally, rounds: u64) {
+    if !cfg!(feature = "regions") {
+        tally.note("contours and bands are not in the library: not compared");
+        return;
+    }
+    let random = &mut Random::new(SEED + 2);
+    let mut grids = 0;
+    tally.part("regions, all two-valued grids of up to 9 samples", |t| {
+        grids += region_checks::two_valued_grids(t, random)
+    });
+    tally.part("regions, all three-valued grids of up to 8 samples", |t| {
+        grids += region_checks::three_valued_grids(t, random)
+    });
+    tally.part("contours, refusals 1 and 2", |t| {
+        grid_refusals::listed(t, random, Kind::Contours)
+    });
+    tally.part("bands, refusals 1 to 4", |t| {
+        grid_refusals::listed(t, random, Kind::Bands);
+        grid_refusals::listed_pairs(t, random)
+    });
+    tally.part("regions, rings in rings and in rows", |t| {
+        grids += region_checks::nested(t, random)
+    });
+    tally.part("regions, about groups of 64 and 4,096", |t| {
+        grids += region_checks::groups(t, random)
+    });
+    for _ in 0..rounds {
+        tally.part("regions, small grids", |t| {
+            grids += region_checks::random_small_grids(t, random)
+        });
+        tally.part("regions, every shape up to 32 by 32", |t| {
+            grids += region_checks::every_shape(t, random)
+        });
+        tally.part("regions, thin grids", |t| {
+            grids += region_checks::thin_grids(t, random)
+        });
+        tally.part("regions, several refusals at once", |t| {
+            grid_refusals::mixed(t, random, Kind::Contours);
+            grid_refusals::mixed(t, random, Kind::Bands)
+        });
+        tally.part("regions, noise", |t| {
+            grids += region_checks::noise(t, random)
+        });
+    }
+    tally.part("regions, 4,096 by 4,096", |t| {
+        region_checks::largest_grid(t, random)
+    });
+    tally.note(&format!(
+        "the contours and bands of {grids} grids in every kind of room"
+    ));
 }
 
 /// What the examples printed, if compare/run had a library to run them with.
-fn compare_printed(tally: &mut Tally, programs: &[(String, String)]) {
-    for (name, file) in programs {
+fn compare_printed(tally: &mut Tally, programs: &[Printed]) {
+    for [example, name, file] in programs {
         let text = std::fs::read(file).expect("the file that compare/run wrote");
-        tally.part(&format!("what {name} prints"), |t| {
-            printed::compare(t, name, &String::from_utf8_lossy(&text))
+        tally.part(&format!("what {name} prints of {example}"), |t| {
+            printed::compare(t, example, name, &String::from_utf8_lossy(&text))
         });
     }
 }

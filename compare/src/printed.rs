@@ -1,29 +1,43 @@
-//! What the C example and the Rust binding's example have to print: the rings of rows 6 to 8 of document
-//! 01's dozen, their areas, containment and a refusal. The crate gives what the rows leave out.
+//! What the examples in C and those of the Rust binding have to print. `rings`: rows 6 to 8 of document 01's
+//! dozen, areas, containment and a refusal. `regions`: a contour and two bands as polygons and holes, and a
+//! refusal. The crate gives what the rows leave out.
 
+use crate::asked::Asked;
+use crate::drawing::Drawing;
+use crate::entries::Kind;
 use crate::ffi::Answer;
 use crate::oracle;
-use crate::rings::Grid;
-use crate::tally::Tally;
+use crate::rings::{Grid, Pair};
+use crate::tally::{listed, Tally};
 
 /// Rows 6 and 7.
 const RING_0: &str = "(3,4)(2,3)(3,2)(4,3)(3,4)";
 const AREAS: [i64; 2] = [-4, 68];
+/// A plate with a hole and a peak, and a small hill beside it.
+const PLATE: [[u8; 7]; 3] = [
+    [1, 1, 1, 1, 1, 0, 2],
+    [1, 0, 1, 2, 1, 0, 1],
+    [1, 1, 1, 1, 1, 0, 0],
+];
 
-/// The text, with one line a ring.
-pub fn expected() -> String {
-    let grid = Grid {
-        dx: 3,
-        dy: 3,
-        values: vec![1.0, 1.0, 1.0, 1.0, 0.0, 1.0, 1.0, 1.0, 1.0],
-        threshold: 1.0,
-    };
+/// The text of an example.
+fn expected(example: &str) -> String {
+    match example {
+        "rings" => rings(),
+        "regions" => regions(),
+        other => panic!("no example {other}"),
+    }
+}
+
+/// One line a ring.
+fn rings() -> String {
+    let grid = Grid::new(3, 3, 1.0, |x, y| if (x, y) == (1, 1) { 0.0 } else { 1.0 });
     let rings = grid.rings();
     assert!(rings.len() == AREAS.len(), "the dozen has two rings");
     let mut text = String::new();
     for (number, (ring, area)) in rings.iter().zip(AREAS).enumerate() {
         assert!(oracle::area(&ring.points) == Answer::Value(area), "row 7");
-        let points = crate::tally::listed(&ring.words);
+        let points = listed(&ring.words);
         assert!(number > 0 || points == RING_0, "row 6");
         text.push_str(&format!("ring {number}: {points} area {area}\n"));
     }
@@ -34,9 +48,38 @@ pub fn expected() -> String {
     text
 }
 
+/// A title and one line a ring for each contour or band.
+fn regions() -> String {
+    let grid = Grid::new(7, 3, 1.0, |x, y| PLATE[y][x].into());
+    let mut text = "contour at 1\n".to_string();
+    text.push_str(&polygons(&Asked::new(Kind::Contours, &grid)));
+    for k in 0..2 {
+        let list = vec![1.0, 2.0, 2.0];
+        text.push_str(&format!("band from {} to {}\n", list[k], list[k + 1]));
+        text.push_str(&polygons(&Asked::band(&grid, &Pair { list, k })));
+    }
+    text.push_str("band from the last threshold: refusal 4\n");
+    text
+}
+
+/// Each polygon with its holes, then the dropped holes.
+fn polygons(asked: &Asked) -> String {
+    let drawing = Drawing::of(asked).expect("a question that passes");
+    let records: Vec<_> = drawing.records().collect();
+    let mut lines = Vec::new();
+    for (number, (polygon, _, _)) in records.iter().enumerate().filter(|(_, r)| r.1 == 0) {
+        lines.push(format!("polygon {}", listed(polygon)));
+        let holes = records.iter().filter(|r| (r.1, r.2) == (1, number as u32));
+        lines.extend(holes.map(|(hole, _, _)| format!("  hole {}", listed(hole))));
+    }
+    let dropped = records.iter().filter(|r| r.2 == u32::MAX);
+    lines.extend(dropped.map(|(hole, _, _)| format!("dropped {}", listed(hole))));
+    lines.iter().map(|line| format!("{line}\n")).collect()
+}
+
 /// Compares what a program printed, line by line.
-pub fn compare(tally: &mut Tally, name: &str, printed: &str) {
-    let expected = expected();
+pub fn compare(tally: &mut Tally, example: &str, name: &str, printed: &str) {
+    let expected = expected(example);
     let (mut wanted, mut got) = (expected.lines(), printed.lines());
     let mut lines = (1..).map(|number| (number, wanted.next(), got.next()));
     let first = lines.find(|(_, wanted, got)| wanted != got || wanted.is_none());
@@ -49,5 +92,5 @@ pub fn compare(tally: &mut Tally, name: &str, printed: &str) {
         }
         None => None,
     };
-    tally.holds(difference, || format!("what {name} prints"));
+    tally.holds(difference, || format!("what {name} prints of {example}"));
 }

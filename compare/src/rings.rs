@@ -3,13 +3,28 @@
 use crate::oracle::doubled;
 use crate::random::Random;
 use crate::Pt;
+use std::rc::Rc;
 
 /// A terrain of dx columns and dy rows, and the threshold to draw it at.
 pub struct Grid {
     pub dx: usize,
     pub dy: usize,
-    pub values: Vec<f64>,
+    pub values: Rc<[f64]>,
     pub threshold: f64,
+}
+
+/// A list of thresholds, and the number of a band's lower one in it.
+pub struct Pair {
+    pub list: Vec<f64>,
+    pub k: usize,
+}
+
+impl Pair {
+    /// The thresholds k and k + 1, if the list has both.
+    pub fn thresholds(&self) -> Option<&[f64]> {
+        let behind = self.k.checked_add(2)?;
+        self.list.get(self.k..behind)
+    }
 }
 
 /// A ring as the crate gives it, and its doubled whole coordinates.
@@ -19,6 +34,21 @@ pub struct Ring {
 }
 
 impl Grid {
+    /// A terrain by the height of each sample, by column and row.
+    pub fn new(
+        dx: usize,
+        dy: usize,
+        threshold: f64,
+        mut height: impl FnMut(usize, usize) -> f64,
+    ) -> Self {
+        Grid {
+            dx,
+            dy,
+            values: (0..dx * dy).map(|k| height(k % dx, k / dx)).collect(),
+            threshold,
+        }
+    }
+
     /// The crate's rings of this terrain, in its order.
     pub fn rings(&self) -> Vec<Ring> {
         let drawn = contour::contour_rings(&self.values, self.threshold, self.dx, self.dy);
@@ -30,6 +60,16 @@ impl Grid {
                 points,
             })
             .collect()
+    }
+
+    /// The same terrain, to be drawn at another threshold.
+    pub fn at(&self, threshold: f64) -> Grid {
+        let values = Rc::clone(&self.values);
+        Grid {
+            values,
+            threshold,
+            ..*self
+        }
     }
 }
 
@@ -80,7 +120,7 @@ fn at_random_threshold(random: &mut Random, dx: usize, dy: usize, values: Vec<f6
     Grid {
         dx,
         dy,
-        values,
+        values: values.into(),
         threshold,
     }
 }
@@ -152,4 +192,21 @@ fn random_threshold(random: &mut Random, values: &[f64]) -> f64 {
         5..=8 => 1.0,
         _ => random.pick(values),
     }
+}
+
+/// A list of two to four thresholds and a pair of it. Of four lists one rises, one falls, one has the pair
+/// equal, and one is as it comes.
+pub fn random_pair(random: &mut Random, values: &[f64]) -> Pair {
+    let count = random.between(2, 4);
+    let mut list: Vec<f64> = (0..count)
+        .map(|_| random_threshold(random, values))
+        .collect();
+    let k = random.below(count - 1);
+    match random.below(4) {
+        0 => list[k + 1] = list[k],
+        1 => list.sort_by(f64::total_cmp),
+        2 => list.sort_by(|a, b| b.total_cmp(a)),
+        _ => {}
+    }
+    Pair { list, k }
 }

@@ -1,0 +1,52 @@
+//! The numbers that the library refuses with.
+
+/// Why a call was refused.
+#[derive(Clone, Copy, Debug, PartialEq, Eq)]
+pub enum Refusal {
+    /// 1: a side is 0 or above 4,096.
+    Side,
+    /// 2: the number of values is not dx·dy.
+    ValueCount,
+    /// 3: a band's list has fewer than two thresholds.
+    Thresholds,
+    /// 4: a band's list has no pair of thresholds k and k + 1.
+    Pair,
+    /// 11: an empty ring, more than 67,108,864 points, or a coordinate above 8,192.
+    Ring,
+    /// A number that these calls do not draw, since every table has the reported room.
+    Other(u32),
+}
+
+impl Refusal {
+    /// The number that the library returned.
+    pub fn number(self) -> u32 {
+        match self {
+            Refusal::Side => 1,
+            Refusal::ValueCount => 2,
+            Refusal::Thresholds => 3,
+            Refusal::Pair => 4,
+            Refusal::Ring => 11,
+            Refusal::Other(number) => number,
+        }
+    }
+
+    pub(crate) fn of(number: u32) -> Result<(), Refusal> {
+        match number {
+            0 => Ok(()),
+            1 => Err(Refusal::Side),
+            2 => Err(Refusal::ValueCount),
+            3 => Err(Refusal::Thresholds),
+            4 => Err(Refusal::Pair),
+            11 => Err(Refusal::Ring),
+            other => Err(Refusal::Other(other)),
+        }
+    }
+}
+
+impl std::fmt::Display for Refusal {
+    fn fmt(&self, f: &mut std::fmt::Formatter) -> std::fmt::Result {
+        write!(f, "refusal {}", self.number())
+    }
+}
+
+impl std::error::Error for Refusal {}

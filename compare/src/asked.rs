@@ -1,0 +1,104 @@
+//! What an entry is asked: a terrain, and for a band a list of thresholds. Numbers lent to be read stand
+//! between guards.
+
+use crate::entries::Kind;
+use crate::lent::GUARDS;
+use crate::rings::{Grid, Pair};
+
+const LONGEST_SIDE: usize = 4_096;
+
+/// A terrain as it is lent, and for a band the list of thresholds: numbers between guards. The guards of the
+/// values are above every threshold that has any above it; those of the list have every sample above them.
+/// The number of values need not be that of the sides, and the list need not have the pair.
+pub struct Asked<'a> {
+    pub kind: Kind,
+    pub grid: &'a Grid,
+    pub pair: Option<&'a Pair>,
+    pub values: Guarded,
+    pub list: Guarded,
+}
+
+impl<'a> Asked<'a> {
+    /// Rings or contours at the grid's own threshold.
+    pub fn new(kind: Kind, grid: &'a Grid) -> Self {
+        Asked {
+            kind,
+            grid,
+            pair: None,
+            values: Guarded::new(&grid.values, f64::INFINITY),
+            list: Guarded::new(&[], f64::NEG_INFINITY),
+        }
+    }
+
+    /// A band, whatever the grid's own threshold.
+    pub fn band(grid: &'a Grid, pair: &'a Pair) -> Self {
+        Asked {
+            pair: Some(pair),
+            list: Guarded::new(&pair.list, f64::NEG_INFINITY),
+            ..Asked::new(Kind::Bands, grid)
+        }
+    }
+
+    /// The lowest refusal that applies whatever the room, or 0.
+    pub fn refusal(&self) -> u32 {
+        let Grid { dx, dy, .. } = *self.grid;
+        if [dx, dy]
+            .iter()
+            .any(|&side| side == 0 || side > LONGEST_SIDE)
+        {
+            return 1;
+        }
+        if self.grid.values.len() != dx * dy {
+            return 2;
+        }
+        match self.pair {
+            Some(pair) if pair.list.len() < 2 => 3,
+            Some(pair) if pair.thresholds().is_none() => 4,
+            _ => 0,
+        }
+    }
+
+    /// The terrain at each threshold that is drawn, unless the call is refused whatever the room.
+    pub fn sets(&self) -> Vec<Grid> {
+        let at = |&threshold: &f64| self.grid.at(threshold);
+        match self.pair {
+            None => vec![at(&self.grid.threshold)],
+            Some(pair) => pair.thresholds().unwrap_or(&[]).iter().map(at).collect(),
+        }
+    }
+
+    /// Whether everything lent to be read is still what it was.
+    pub fn is_still(&self) -> bool {
+        let list = self.pair.map_or(&[][..], |pair| &pair.list);
+        self.values.is_still(&self.grid.values) && self.list.is_still(list)
+    }
+}
+
+/// Numbers with guards before and behind.
+pub struct Guarded {
+    all: Vec<f64>,
+    guard: f64,
+}
+
+impl Guarded {
+    fn new(numbers: &[f64], guard: f64) -> Self {
+        let all = [&[guard; GUARDS], numbers, &[guard; GUARDS]].concat();
+        Guarded { all, guard }
+    }
+
+    /// Whether the numbers and the guards are, bit for bit, what they were.
+    fn is_still(&self, numbers: &[f64]) -> bool {
+        let guards = [self.guard; GUARDS];
+        let all = guards.iter().chain(numbers).chain(&guards);
+        all.map(|number| number.to_bits())
+            .eq(self.all.iter().map(|number| number.to_bits()))
+    }
+
+    pub fn at(&self) -> *const f64 {
+        self.all[GUARDS..].as_ptr()
+    }
+
+    pub fn count(&self) -> usize {
+        self.all.len() - 2 * GUARDS
+    }
+}

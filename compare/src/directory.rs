@@ -1,0 +1,139 @@
+//! The directory of a call. Classes and owners are read off the polygons that the crate hands out, with
+//! rings matched by their vertices, and are worked out by document 01's words from the crate's `area` and
+//! `contains`, unless that takes too long. The two have to agree.
+
+use crate::asked::Asked;
+use crate::entries::Kind;
+use crate::ffi::Answer;
+use crate::oracle;
+use crate::rings::Ring;
+use contour::ContourBuilder;
+use geo_types::{LineString, MultiPolygon, Polygon};
+use std::collections::{HashMap, VecDeque};
+
+const POLYGON: u32 = 0;
+const HOLE: u32 = 1;
+const BARE: u32 = 2;
+const NOBODY: u32 = 4_294_967_295;
+/// Where rings times points are more, the words of document 01 are not worked out a second time.
+const DEAREST: usize = 4_000_000;
+
+/// A class and an owner.
+type Fate = [u32; 2];
+
+/// All records of the rings, which stand here as their points do.
+pub fn directory(asked: &Asked, rings: &[Ring]) -> Vec<u32> {
+    let firsts = rings.iter().scan(0, |end, ring| {
+        let first = *end;
+        *end += ring.points.len();
+        Some(first)
+    });
+    let mut records: Vec<_> = firsts.zip(rings).collect();
+    if asked.kind == Kind::Bands {
+        records.sort_by_key(|(_, ring)| area(ring).abs() / 4);
+    }
+    let rings: Vec<&Ring> = records.iter().map(|&(_, ring)| ring).collect();
+    let with_fates = records.iter().zip(fates(asked, &rings));
+    with_fates
+        .flat_map(|(&(first, ring), [class, owner])| {
+            [first as u32, ring.points.len() as u32, class, owner]
+        })
+        .collect()
+}
+
+/// The fates of rings in record order.
+fn fates(asked: &Asked, rings: &[&Ring]) -> Vec<Fate> {
+    if asked.kind == Kind::Rings {
+        return vec![[BARE, NOBODY]; rings.len()];
+    }
+    let fates = read_off(rings, crate_polygons(asked));
+    let points: usize = rings.iter().map(|ring| ring.points.len()).sum();
+    if rings.len() * points <= DEAREST {
+        let stated = by_document(asked.kind, rings);
+        assert!(
+            fates == stated,
+            "the crate's polygons are not document 01's"
+        );
+    }
+    fates
+}
+
+/// The crate's polygons by record number.
+fn crate_polygons(asked: &Asked) -> Vec<Polygon> {
+    let grid = asked.grid;
+    let builder = ContourBuilder::new(grid.dx, grid.dy, false);
+    let MultiPolygon(mut polygons) = match asked.pair {
+        None => {
+            let contours = builder.contours(&grid.values, &[grid.threshold]);
+            let mut contours = contours.expect("the crate draws every contour");
+            contours.remove(0).into_inner().0
+        }
+        Some(pair) => {
+            let bands = builder.isobands(&grid.values, &pair.list);
+            let mut bands = bands.expect("the crate draws every band");
+            bands.remove(pair.k).into_inner().0
+        }
+    };
+    if asked.kind == Kind::Bands {
+        polygons.reverse();
+    }
+    polygons
+}
+
+/// A ring that is no polygon's exterior and no interior is a dropped hole. Two sets may have a ring in
+/// common, vertex by vertex. Its two records then have the same class and the same owner, and stand in
+/// the crate's list in their order.
+fn read_off(rings: &[&Ring], polygons: Vec<Polygon>) -> Vec<Fate> {
+    let mut numbers = HashMap::<&[u16], VecDeque<usize>>::new();
+    for (number, ring) in rings.iter().enumerate() {
+        numbers.entry(&ring.words).or_default().push_back(number);
+    }
+    let mut number_of = |line: &LineString| {
+        let words = oracle::doubled(&line.0);
+        let same = numbers.get_mut(&words[..]).and_then(VecDeque::pop_front);
+        same.expect("the crate's polygons are made of the crate's rings")
+    };
+    let mut fates = vec![[HOLE, NOBODY]; rings.len()];
+    let mut free = 0;
+    for polygon in polygons {
+        let owner = number_of(polygon.exterior());
+        assert!(owner >= free, "the crate's polygons in another order");
+        free = owner + 1;
+        fates[owner] = [POLYGON, owner as u32];
+        for interior in polygon.interiors() {
+            fates[number_of(interior)][1] = owner as u32;
+        }
+    }
+    fates
+}
+
+/// Document 01's words. A ring takes another when its answer for it is not -1.
+fn by_document(kind: Kind, rings: &[&Ring]) -> Vec<Fate> {
+    let takes = |outer: usize, tested: usize| {
+        oracle::contains(&rings[outer].points, &rings[tested].points) != Answer::Value(-1)
+    };
+    let all = 0..rings.len();
+    let is_polygon: Vec<bool> = match kind {
+        Kind::Bands => all
+            .clone()
+            .map(|k| all.clone().filter(|&o| o != k && takes(o, k)).count() % 2 == 0)
+            .collect(),
+        _ => rings.iter().map(|ring| area(ring) > 0).collect(),
+    };
+    all.clone()
+        .map(|k| match is_polygon[k] {
+            true => [POLYGON, k as u32],
+            false => {
+                let owner = all.clone().find(|&o| is_polygon[o] && takes(o, k));
+                [HOLE, owner.map_or(NOBODY, |owner| owner as u32)]
+            }
+        })
+        .collect()
+}
+
+fn area(ring: &Ring) -> i64 {
+    match oracle::area(&ring.points) {
+        Answer::Value(area) => area,
+        _ => unreachable!("the crate refuses no ring"),
+    }
+}
