@@ -20,6 +20,7 @@ mod oracle;
 mod printed;
 mod random;
 mod refusals;
+mod region_answers;
 mod region_checks;
 mod ring_checks;
 mod rings;
@@ -45,6 +46,8 @@ const SEED: u64 = 0x636F_6E74_6F75_7273;
 enum Task {
     /// Write the crate's answers to this file.
     Answers(String),
+    /// Write the crate's contours and bands to this file.
+    RegionAnswers(String),
     /// Compare in so many rounds, and compare what programs printed.
     Compare(u64, Vec<Printed>),
 }
@@ -60,6 +63,10 @@ fn main() -> ExitCode {
         }
         Ok(Task::Answers(file)) => {
             std::fs::write(&file, answers::text()).expect("a file to write the answers to");
+            ExitCode::SUCCESS
+        }
+        Ok(Task::RegionAnswers(file)) => {
+            std::fs::write(&file, region_answers::text()).expect("a file to write the answers to");
             ExitCode::SUCCESS
         }
         Ok(Task::Compare(rounds, programs)) => {
@@ -80,6 +87,10 @@ fn task(mut words: impl Iterator<Item = String>) -> Result<Task, &'static str> {
             "--answers" => {
                 let file = words.next().ok_or("--answers takes a file")?;
                 return Ok(Task::Answers(file));
+            }
+            "--region-answers" => {
+                let file = words.next().ok_or("--region-answers takes a file")?;
+                return Ok(Task::RegionAnswers(file));
             }
             "--printed" => {
                 let three: Vec<String> = words.by_ref().take(3).collect();

@@ -3,781 +3,327 @@
 // exact room, and every call is repeated with each table one word short. Then the longest sides that pass and the nearest that do not are run.
 // A program has no exit status of its own: what differs stands in what it writes, which is held to the file stdout.
 use cells::Level;
-use isoringbuilder::Built;
-use isoringbuilder::SecondReport;
 use isoringbuilder::contour_rings;
 use isoringbuilder::second_report;
-use scan::FirstReport;
+use replaying::Case;
+use replaying::Counts;
+use replaying::DIRECTORY;
+use replaying::LINES;
+use replaying::LINKS;
+use replaying::LONG_LINES;
+use replaying::LONG_LINKS;
+use replaying::LONG_POINTS;
+use replaying::NUMBERS;
+use replaying::POINTS;
+use replaying::SOIL;
+use replaying::SOILED;
+use replaying::TEXT;
+use replaying::VALUES;
+use replaying::after;
+use replaying::built_code;
+use replaying::case_of;
+use replaying::first_code;
+use replaying::is_long;
+use replaying::least;
+use replaying::lent;
+use replaying::longest_counts;
+use replaying::parse;
+use replaying::part;
+use replaying::points_lent;
+use replaying::points_part;
+use replaying::print_limit;
+use replaying::print_replay;
+use replaying::put_sample;
+use replaying::refused_case;
+use replaying::same_points;
+use replaying::same_words;
+use replaying::samples;
+use replaying::second_code;
+use replaying::short_code;
+use replaying::short_room;
+use replaying::spared;
+use replaying::word;
+use replaying::work_code;
+use replaying::work_holds;
 use scan::first_report;
 use std::num::wrapping_add_u32;
 use std::num::wrapping_add_usize;
 
-// How much text is read, and how many numbers it may hold.
-const TEXT: usize = 1048576;
+fn level() -> Level {
+    Level { threshold: 1.0 }
+}
 
-const NUMBERS: usize = 524288;
+// The code of the first report.
+fn first(case: Case, values: &[f64; VALUES]) -> u32 {
+    let report = first_report(samples(values, case.samples), level(), case.dx, case.dy);
+    first_code(report, case.counts)
+}
 
-// The words of the tables that are lent, enough for the longest sides.
-const VALUES: usize = 4352;
-
-const LINES: usize = 4352;
-
-const LINKS: usize = 16640;
-
-const POINTS: usize = 16640;
-
-const DIRECTORY: usize = 512;
-
-// What a call answered: 0 or the refusal's number, and the counts that it gave.
-struct Answer {
+// Whether the second report has this code, and leaves the work tables as it should.
+fn second_holds(
+    case: Case,
+    values: &[f64; VALUES],
     code: u32,
-    segments: u32,
-    peak: u32,
-    rings: u32,
-}
-
-// The words that a call is lent of each table.
-struct Room {
-    open: usize,
-    linked: usize,
-    worded: usize,
-    recorded: usize,
-}
-
-// A part of the text that was held to the library: whether it was the same, and the number after it.
-struct Step {
-    same: bool,
-    next: usize,
-}
-
-// How many grids differ, and the number after the last one.
-struct Tally {
-    differ: u32,
-    next: usize,
-}
-
-// The code of a table that is shorter than what is to be lent of it. No refusal has it.
-const UNLENT: u32 = 99;
-
-// A byte of a text, and 0 past the end.
-fn byte(text: &[u8], i: usize) -> u8 {
-    if i < text.len() { text[i] } else { 0 }
-}
-
-// A word of a table, and 0 past the end.
-fn word(table: &[u32], i: usize) -> u32 {
-    if i < table.len() { table[i] } else { 0 }
-}
-
-// A word of the points, and 0 past the end.
-fn coordinate(points: &[u16], i: usize) -> u32 {
-    if i < points.len() {
-        widened(points[i])
-    } else {
-        0
-    }
-}
-
-fn widened(x: u16) -> u32 {
-    x as u32
-}
-
-fn size(x: u32) -> usize {
-    x as usize
-}
-
-// Stores a word of a table. Past the end nothing is stored.
-fn put(table: &mut [u32], i: usize, value: u32) {
-    if i < table.len() {
-        table[i] = value;
-    }
-}
-
-// Stores a word of the points. Past the end nothing is stored.
-fn put_coordinate(points: &mut [u16], i: usize, value: u16) {
-    if i < points.len() {
-        points[i] = value;
-    }
-}
-
-// Stores a sample: 1 or 0. Past the end nothing is stored.
-fn put_sample(values: &mut [f64], i: usize, is_above: bool) {
-    let value = if is_above { 1.0 } else { 0.0 };
-    if i < values.len() {
-        values[i] = value;
-    }
-}
-
-// A number with one more digit. Numbers of more than eight digits lose their front.
-fn appended(value: u32, digit: u8) -> u32 {
-    value % 10000000 * 10 + (digit % 16) as u32
-}
-
-fn is_digit(b: u8) -> bool {
-    48 <= b && b <= 57
-}
-
-// The numbers of the first `end` bytes of a text in order, and how many they are. Each ends with a space or the end of its line.
-fn parse(text: &[u8; TEXT], end: usize, numbers: &mut [u32; NUMBERS]) -> usize {
-    let mut count: usize = 0;
-    let mut value: u32 = 0;
-    let mut i: usize = 0;
-    while i < end {
-        let b = byte(text, i);
-        i += 1;
-        if is_digit(b) {
-            value = appended(value, b);
-        } else {
-            put(numbers, count, value);
-            count = wrapping_add_usize(count, 1);
-            value = 0;
-        }
-    }
-    count
-}
-
-// Stores the samples of a row from a number in which sample x counts 2^x.
-fn fill_row(row: u32, dx: u32, values: &mut [f64; VALUES], from: usize) {
-    let mut rest = row;
-    let mut at = from;
-    let mut left = dx;
-    while 0 < left {
-        left -= 1;
-        put_sample(values, at, rest % 2 == 1);
-        at = wrapping_add_usize(at, 1);
-        rest = rest / 2;
-    }
-}
-
-// Stores the samples of all rows, a number each, and answers how many samples they are.
-fn fill(numbers: &[u32], first: usize, dx: u32, dy: u32, values: &mut [f64; VALUES]) -> usize {
-    let mut at = first;
-    let mut from: usize = 0;
-    let mut left = dy;
-    while 0 < left {
-        left -= 1;
-        fill_row(word(numbers, at), dx, values, from);
-        at = wrapping_add_usize(at, 1);
-        from = wrapping_add_usize(from, size(dx));
-    }
-    from
-}
-
-// What the first report answers.
-fn first_answer(values: &[f64], count: usize, dx: usize, dy: usize) -> Answer {
-    if values.len() < count {
-        return refused(UNLENT);
-    }
-    match first_report(&values[..count], Level { threshold: 1.0 }, dx, dy) {
-        FirstReport::Refused(refusal) => refused(error::number(refusal)),
-        FirstReport::Room { segments, peak } => Answer {
-            code: 0,
-            segments,
-            peak,
-            rings: 0,
-        },
-    }
-}
-
-fn refused(code: u32) -> Answer {
-    Answer {
-        code,
-        segments: 0,
-        peak: 0,
-        rings: 0,
-    }
-}
-
-// What the second report answers with this room.
-fn second_answer(
-    values: &[f64],
-    count: usize,
-    dx: usize,
-    dy: usize,
     lines: &mut [u32],
     links: &mut [u32],
-    room: Room,
-) -> Answer {
-    let open = room.open;
-    let linked = room.linked;
-    if values.len() < count {
-        return refused(UNLENT);
-    }
-    if lines.len() < open {
-        return refused(UNLENT);
-    }
-    if links.len() < linked {
-        return refused(UNLENT);
-    }
-    let report = second_report(
-        &values[..count],
-        Level { threshold: 1.0 },
-        dx,
-        dy,
-        &mut lines[..open],
-        &mut links[..linked],
-    );
-    match report {
-        SecondReport::Refused(refusal) => refused(error::number(refusal)),
-        SecondReport::Room {
-            segments,
-            rings,
-            peak,
-            points,
-        } => Answer {
-            code: if points == wrapping_add_u32(segments, rings) {
-                0
-            } else {
-                UNLENT
-            },
-            segments,
-            peak,
-            rings,
-        },
-    }
+) -> bool {
+    let grid = samples(values, case.samples);
+    let report = second_report(grid, level(), case.dx, case.dy, lines, links);
+    (second_code(report, case.counts) == code) & work_holds(lines, links, code)
 }
 
-// What `contour_rings` answers with this room.
-fn rings_answer(
-    values: &[f64],
-    count: usize,
-    dx: usize,
-    dy: usize,
+// Whether `contour_rings` has this code, and leaves the work tables as it should.
+fn build_holds(
+    case: Case,
+    values: &[f64; VALUES],
+    code: u32,
     lines: &mut [u32],
     links: &mut [u32],
     points: &mut [u16],
     directory: &mut [u32],
-    room: Room,
-) -> Answer {
-    let open = room.open;
-    let linked = room.linked;
-    let worded = room.worded;
-    let recorded = room.recorded;
-    if values.len() < count {
-        return refused(UNLENT);
-    }
-    if lines.len() < open {
-        return refused(UNLENT);
-    }
-    if links.len() < linked {
-        return refused(UNLENT);
-    }
-    if points.len() < worded {
-        return refused(UNLENT);
-    }
-    if directory.len() < recorded {
-        return refused(UNLENT);
-    }
+) -> bool {
+    let grid = samples(values, case.samples);
     let built = contour_rings(
-        &values[..count],
-        Level { threshold: 1.0 },
-        dx,
-        dy,
-        &mut lines[..open],
-        &mut links[..linked],
-        &mut points[..worded],
-        &mut directory[..recorded],
-    );
-    match built {
-        Built::Refused(refusal) => refused(error::number(refusal)),
-        Built::Rings(rings) => Answer {
-            code: 0,
-            segments: 0,
-            peak: 0,
-            rings,
-        },
-    }
-}
-
-// The room that a grid needs, from its counts.
-fn exact_room(dx: u32, segments: u32, peak: u32, rings: u32) -> Room {
-    Room {
-        open: 4 * (peak as usize) + dx as usize + 2,
-        linked: 2 * (segments as usize),
-        worded: 2 * (segments as usize + rings as usize),
-        recorded: 4 * (rings as usize),
-    }
-}
-
-fn one_less(n: usize) -> usize {
-    if 0 < n { n - 1 } else { 0 }
-}
-
-// The room with one table a word short: the one whose refusal has this number.
-fn short_room(room: Room, number: u32) -> Room {
-    let open = room.open;
-    let linked = room.linked;
-    let worded = room.worded;
-    let recorded = room.recorded;
-    Room {
-        open: if number == 5 { one_less(open) } else { open },
-        linked: if number == 6 {
-            one_less(linked)
-        } else {
-            linked
-        },
-        worded: if number == 7 {
-            one_less(worded)
-        } else {
-            worded
-        },
-        recorded: if number == 8 {
-            one_less(recorded)
-        } else {
-            recorded
-        },
-    }
-}
-
-// The answer's code to a room that is short of table `number`, where that table needs any word at all.
-fn short_code(number: u32, segments: u32) -> u32 {
-    if number == 5 || 0 < segments {
-        number
-    } else {
-        0
-    }
-}
-
-// Sets the first words of the points to 65535, which no point has.
-fn soil_points(points: &mut [u16; POINTS], words: usize) {
-    let mut i: usize = 0;
-    while i < words {
-        put_coordinate(points, i, 65535);
-        i += 1;
-    }
-}
-
-// Sets the first words of the directory to 65535, which no record has.
-fn soil_directory(directory: &mut [u32; DIRECTORY], words: usize) {
-    let mut i: usize = 0;
-    while i < words {
-        put(directory, i, 65535);
-        i += 1;
-    }
-}
-
-// Whether the first words of the points are still 65535.
-fn points_spared(points: &[u16; POINTS], words: usize) -> bool {
-    let mut i: usize = 0;
-    while i < words {
-        if coordinate(points, i) != 65535 {
-            return false;
-        }
-        i += 1;
-    }
-    true
-}
-
-// Whether the first words of the directory are still 65535.
-fn directory_spared(directory: &[u32; DIRECTORY], words: usize) -> bool {
-    let mut i: usize = 0;
-    while i < words {
-        if word(directory, i) != 65535 {
-            return false;
-        }
-        i += 1;
-    }
-    true
-}
-
-// Whether `contour_rings` refuses each table that is a word short, by its number.
-fn short_tables_refused(
-    dx: u32,
-    dy: u32,
-    count: usize,
-    segments: u32,
-    peak: u32,
-    rings: u32,
-    values: &[f64; VALUES],
-    lines: &mut [u32; LINES],
-    links: &mut [u32; LINKS],
-    points: &mut [u16; POINTS],
-    directory: &mut [u32; DIRECTORY],
-) -> bool {
-    let mut are_refused = true;
-    let mut number: u32 = 5;
-    while number < 9 {
-        let room = short_room(exact_room(dx, segments, peak, rings), number);
-        let answer = rings_answer(
-            values,
-            count,
-            size(dx),
-            size(dy),
-            lines,
-            links,
-            points,
-            directory,
-            room,
-        );
-        if answer.code != short_code(number, segments) {
-            are_refused = false;
-        }
-        number += 1;
-    }
-    are_refused
-}
-
-// Whether the second report refuses each work table that is a word short, by its number.
-fn short_work_refused(
-    dx: u32,
-    dy: u32,
-    count: usize,
-    segments: u32,
-    peak: u32,
-    values: &[f64; VALUES],
-    lines: &mut [u32; LINES],
-    links: &mut [u32; LINKS],
-) -> bool {
-    let mut are_refused = true;
-    let mut number: u32 = 5;
-    while number < 7 {
-        let room = short_room(exact_room(dx, segments, peak, 0), number);
-        let answer = second_answer(values, count, size(dx), size(dy), lines, links, room);
-        if answer.code != short_code(number, segments) {
-            are_refused = false;
-        }
-        number += 1;
-    }
-    are_refused
-}
-
-// Whether all three calls pass in exact room with these counts, and every table a word short is refused and spares points and directory. The rings are
-// left in points and directory.
-fn counts_hold(
-    dx: u32,
-    dy: u32,
-    count: usize,
-    segments: u32,
-    peak: u32,
-    rings: u32,
-    values: &[f64; VALUES],
-    lines: &mut [u32; LINES],
-    links: &mut [u32; LINKS],
-    points: &mut [u16; POINTS],
-    directory: &mut [u32; DIRECTORY],
-) -> bool {
-    let first = first_answer(values, count, size(dx), size(dy));
-    if first.code != 0 || first.segments != segments || first.peak != peak {
-        return false;
-    }
-    let work = exact_room(dx, segments, peak, rings);
-    let second = second_answer(values, count, size(dx), size(dy), lines, links, work);
-    if second.code != 0
-        || second.segments != segments
-        || second.peak != peak
-        || second.rings != rings
-    {
-        return false;
-    }
-    if !short_work_refused(dx, dy, count, segments, peak, values, lines, links) {
-        return false;
-    }
-    let room = exact_room(dx, segments, peak, rings);
-    let worded = room.worded;
-    let recorded = room.recorded;
-    soil_points(points, worded);
-    soil_directory(directory, recorded);
-    if !short_tables_refused(
-        dx,
-        dy,
-        count,
-        segments,
-        peak,
-        rings,
-        values,
+        grid,
+        level(),
+        case.dx,
+        case.dy,
         lines,
         links,
         points,
         directory,
-    ) {
-        return false;
-    }
-    if !points_spared(points, worded) || !directory_spared(directory, recorded) {
-        return false;
-    }
-    let built = rings_answer(
-        values,
-        count,
-        size(dx),
-        size(dy),
-        lines,
-        links,
-        points,
-        directory,
-        room,
     );
-    built.code == 0 && built.rings == rings
+    (built_code(built, case.counts.rings) == code) & work_holds(lines, links, code)
 }
 
-// Whether `count` words of the points, from word `from` on, are the numbers from `at` on.
-fn same_points(numbers: &[u32], at: usize, points: &[u16], from: usize, count: u32) -> bool {
-    let mut i = at;
-    let mut j = from;
-    let mut left = count;
-    while 0 < left {
-        left -= 1;
-        if word(numbers, i) != coordinate(points, j) {
-            return false;
-        }
-        i = wrapping_add_usize(i, 1);
-        j = wrapping_add_usize(j, 1);
-    }
-    true
+// Whether a ring in points and directory has these numbers, as many as are listed: a bare ring without owner.
+fn same_ring(ring: u32, first: u32, numbers: &[u32], points: &[u16], directory: &[u32]) -> bool {
+    let count = word(numbers, 0);
+    let listed = after(numbers, 1);
+    let record = [first, count, 2, 4294967295];
+    let at = 4 * (ring as usize);
+    let from = 2 * (first as usize);
+    let to = least(from + 2 * (count as usize), from + listed.len());
+    same_words(part(directory, at, at + 4), &record, 0)
+        & same_points(points_part(points, from, to), listed, 0)
 }
 
-// Whether the directory has this record from word `at` on: a bare ring without owner.
-fn same_record(directory: &[u32], at: usize, first: u32, count: u32) -> bool {
-    word(directory, at) == first
-        && word(directory, wrapping_add_usize(at, 1)) == count
-        && word(directory, wrapping_add_usize(at, 2)) == 2
-        && word(directory, wrapping_add_usize(at, 3)) == 4294967295
+// The numbers from a ring's point count on, where this many points stand before the ring.
+fn from_ring(numbers: &[u32], ring: u32, first: u32) -> &[u32] {
+    after(numbers, ring as usize + 2 * (first as usize))
 }
 
 // Whether the rings in points and directory are those of the text.
-fn same_rings(
-    numbers: &[u32],
-    start: usize,
-    rings: u32,
-    points: &[u16],
-    directory: &[u32],
-) -> Step {
-    let mut same = true;
-    let mut at = start;
+fn same_rings(rings: u32, numbers: &[u32], points: &[u16], directory: &[u32]) -> bool {
     let mut first: u32 = 0;
-    let mut from: usize = 0;
-    let mut record: usize = 0;
-    let mut left = rings;
-    while 0 < left {
-        left -= 1;
-        let count = word(numbers, at);
-        let words = wrapping_add_u32(count, count);
-        at = wrapping_add_usize(at, 1);
-        if !same_record(directory, record, first, count) {
-            same = false;
+    for ring in 0..rings {
+        let rest = from_ring(numbers, ring, first);
+        if !same_ring(ring, first, rest, points, directory) {
+            return false;
         }
-        if !same_points(numbers, at, points, from, words) {
-            same = false;
-        }
-        record = wrapping_add_usize(record, 4);
-        first = wrapping_add_u32(first, count);
-        from = wrapping_add_usize(from, size(words));
-        at = wrapping_add_usize(at, size(words));
+        first = wrapping_add_u32(first, word(rest, 0));
     }
-    Step { same, next: at }
+    true
 }
 
-// Replays the grid that starts at a number.
-fn replay_grid(
+// Whether points and directory are as a build with this code leaves them.
+fn outputs_hold(case: Case, numbers: &[u32], code: u32, points: &[u16], directory: &[u32]) -> bool {
+    if code == 0 {
+        same_rings(case.counts.rings, numbers, points, directory)
+    } else {
+        spared(points, directory)
+    }
+}
+
+// Whether both calls that are lent tables have this code, and leave the tables as they should.
+fn tables_hold(
+    case: Case,
     numbers: &[u32],
-    at: usize,
-    values: &mut [f64; VALUES],
-    lines: &mut [u32; LINES],
-    links: &mut [u32; LINKS],
-    points: &mut [u16; POINTS],
-    directory: &mut [u32; DIRECTORY],
-) -> Step {
-    let dx = word(numbers, at);
-    let dy = word(numbers, wrapping_add_usize(at, 1));
-    let rows = wrapping_add_usize(at, 2);
-    let count = fill(numbers, rows, dx, dy, values);
-    let counts = wrapping_add_usize(rows, size(dy));
-    let segments = word(numbers, counts);
-    let peak = word(numbers, wrapping_add_usize(counts, 1));
-    let rings = word(numbers, wrapping_add_usize(counts, 2));
-    let hold = counts_hold(
-        dx,
-        dy,
-        count,
-        segments,
-        peak,
-        rings,
-        values,
-        lines,
-        links,
-        points,
-        directory,
-    );
-    let drawn = same_rings(
+    values: &[f64; VALUES],
+    code: u32,
+    lines: &mut [u32],
+    links: &mut [u32],
+    points: &mut [u16],
+    directory: &mut [u32],
+) -> bool {
+    let is_built = build_holds(case, values, code, lines, links, points, directory);
+    let is_reported = second_holds(case, values, work_code(code), lines, links);
+    is_built & is_reported & outputs_hold(case, numbers, code, points, directory)
+}
+
+// Whether the tables hold in a room whose table `number` is a word short, where there is one of this number.
+fn room_holds(
+    case: Case,
+    numbers: &[u32],
+    values: &[f64; VALUES],
+    number: u32,
+    lines: &mut [u32],
+    links: &mut [u32],
+    points: &mut [u16],
+    directory: &mut [u32],
+) -> bool {
+    let room = short_room(case.room, number);
+    tables_hold(
+        case,
         numbers,
-        wrapping_add_usize(counts, 3),
-        rings,
-        points,
-        directory,
-    );
-    let same = drawn.same;
-    let next = drawn.next;
-    Step {
-        same: hold && same,
-        next,
+        values,
+        short_code(case.room, number),
+        lent(lines, room.open),
+        lent(links, room.linked),
+        points_lent(points, room.worded),
+        lent(directory, room.recorded),
+    )
+}
+
+// The same in tables of its own, long where the case takes them.
+fn holds(case: Case, numbers: &[u32], values: &[f64; VALUES], number: u32) -> bool {
+    let mut directory = [SOIL; DIRECTORY];
+    if is_long(case.room) {
+        let mut lines = [SOIL; LONG_LINES];
+        let mut links = [SOIL; LONG_LINKS];
+        let mut points = [SOILED; LONG_POINTS];
+        room_holds(
+            case,
+            numbers,
+            values,
+            number,
+            &mut lines,
+            &mut links,
+            &mut points,
+            &mut directory,
+        )
+    } else {
+        let mut lines = [SOIL; LINES];
+        let mut links = [SOIL; LINKS];
+        let mut points = [SOILED; POINTS];
+        room_holds(
+            case,
+            numbers,
+            values,
+            number,
+            &mut lines,
+            &mut links,
+            &mut points,
+            &mut directory,
+        )
     }
 }
 
-// Replays all grids of the text, from number 1 on.
-fn replay(
-    numbers: &[u32],
-    grids: u32,
-    values: &mut [f64; VALUES],
-    lines: &mut [u32; LINES],
-    links: &mut [u32; LINKS],
-    points: &mut [u16; POINTS],
-    directory: &mut [u32; DIRECTORY],
-) -> Tally {
+// A sample of rows that are a number each, in which sample x counts 2^x.
+fn sample(rows: &[u32], dx: usize, i: usize) -> u32 {
+    if dx == 0 {
+        return 0;
+    }
+    word(rows, i / dx) >> (i % dx % 32) as u32 & 1
+}
+
+// Stores this many samples of rows of dx.
+fn fill(rows: &[u32], dx: usize, count: usize, values: &mut [f64; VALUES]) {
+    for i in 0..count {
+        put_sample(values, i, sample(rows, dx, i));
+    }
+}
+
+// Whether all three calls answer as expected in exact room, and with each table one word short. The numbers are those of the rings.
+fn case_holds(case: Case, numbers: &[u32], values: &[f64; VALUES]) -> bool {
+    (first(case, values) == 0)
+        & holds(case, numbers, values, 5)
+        & holds(case, numbers, values, 6)
+        & holds(case, numbers, values, 7)
+        & holds(case, numbers, values, 8)
+        & holds(case, numbers, values, 0)
+}
+
+// The counts of a grid at one threshold from S, H and R.
+fn counts_of(numbers: &[u32]) -> Counts {
+    let segments = word(numbers, 0);
+    let rings = word(numbers, 2);
+    Counts {
+        segments,
+        peak: word(numbers, 1),
+        rings,
+        points: wrapping_add_u32(segments, rings),
+    }
+}
+
+// The numbers after the rows of a grid.
+fn after_rows(grid: &[u32]) -> &[u32] {
+    after(grid, 2 + word(grid, 1) as usize)
+}
+
+// The case of the grid whose numbers these are.
+fn case_at(grid: &[u32]) -> Case {
+    case_of(word(grid, 0), word(grid, 1), counts_of(after_rows(grid)))
+}
+
+// Whether the grid whose numbers these are is replayed without a difference.
+fn grid_holds(grid: &[u32]) -> bool {
+    let case = case_at(grid);
+    let mut values = [0.0f64; VALUES];
+    fill(after(grid, 2), case.dx, case.samples, &mut values);
+    case_holds(case, after(after_rows(grid), 3), &values)
+}
+
+// How many numbers a grid has: its sides, rows, S, H and R, and a count and points for each ring.
+fn grid_length(grid: &[u32]) -> usize {
+    let counts = counts_of(after_rows(grid));
+    5 + word(grid, 1) as usize + counts.rings as usize + 2 * (counts.points as usize)
+}
+
+fn one_if(differs: bool) -> u32 {
+    if differs { 1 } else { 0 }
+}
+
+// Replays all grids of the text, which has this many numbers, and writes what came of it.
+fn replay(numbers: &[u32; NUMBERS], count: usize) {
+    let grids = word(numbers, 0);
     let mut differ: u32 = 0;
     let mut next: usize = 1;
-    let mut left = grids;
-    while 0 < left {
-        left -= 1;
-        let step = replay_grid(numbers, next, values, lines, links, points, directory);
-        next = step.next;
-        if !step.same {
-            differ = wrapping_add_u32(differ, 1);
-        }
+    for _ in 0..grids {
+        let grid = after(numbers, next);
+        differ = wrapping_add_u32(differ, one_if(!grid_holds(grid)));
+        next = wrapping_add_usize(next, grid_length(grid));
     }
-    Tally { differ, next }
+    print_replay(grids, differ, next == count);
 }
 
-// Sets every sample above.
-fn raise(values: &mut [f64; VALUES]) {
-    let mut i: usize = 0;
-    while i < VALUES {
-        put_sample(values, i, true);
-        i += 1;
-    }
+// Whether a grid of one row or one column, of the longest side and all above, passes: 8,194 segments, one open line, one ring of 8,195 points.
+fn longest_passes(dx: u32, dy: u32) -> bool {
+    let values = [1.0f64; VALUES];
+    let numbers = [8195];
+    case_holds(case_of(dx, dy, longest_counts()), &numbers, &values)
 }
 
-// Whether a grid of one row or one column, of the longest side and all above, passes: 8,194 segments, one open line, one ring.
-fn longest_passes(
-    dx: u32,
-    dy: u32,
-    values: &[f64; VALUES],
-    lines: &mut [u32; LINES],
-    links: &mut [u32; LINKS],
-    points: &mut [u16; POINTS],
-    directory: &mut [u32; DIRECTORY],
-) -> bool {
-    counts_hold(
-        dx,
-        dy,
-        4096,
-        8194,
-        1,
-        1,
-        values,
-        lines,
-        links,
-        points,
-        directory,
-    )
-        && same_record(directory, 0, 0, 8195)
+// Whether all three calls refuse these sides and this many values by this number, which is below those of the tables.
+fn grid_refused(number: u32, samples: usize, dx: usize, dy: usize) -> bool {
+    let values = [1.0f64; VALUES];
+    let numbers = [0u32; 0];
+    let case = refused_case(dx, dy, samples);
+    (first(case, &values) == number) & holds(case, &numbers, &values, number)
 }
 
-// Whether all three calls refuse these sides and this many values by this number. No word of any table is lent: the number is below theirs.
-fn grid_refused(
-    number: u32,
-    count: usize,
-    dx: usize,
-    dy: usize,
-    values: &[f64; VALUES],
-    lines: &mut [u32; LINES],
-    links: &mut [u32; LINKS],
-    points: &mut [u16; POINTS],
-    directory: &mut [u32; DIRECTORY],
-) -> bool {
-    let first = first_answer(values, count, dx, dy);
-    let second = second_answer(values, count, dx, dy, lines, links, no_room());
-    let built = rings_answer(
-        values,
-        count,
-        dx,
-        dy,
-        lines,
-        links,
-        points,
-        directory,
-        no_room(),
-    );
-    first.code == number && second.code == number && built.code == number
+// Runs the limits of a side and of the number of values, and writes what came of each.
+fn run_limits() {
+    print_limit(b"4096 by 1", longest_passes(4096, 1));
+    print_limit(b"1 by 4096", longest_passes(1, 4096));
+    print_limit(b"4097 by 1", grid_refused(1, 4097, 4097, 1));
+    print_limit(b"1 by 4097", grid_refused(1, 4097, 1, 4097));
+    print_limit(b"0 by 1", grid_refused(1, 0, 0, 1));
+    print_limit(b"1 by 0", grid_refused(1, 0, 1, 0));
+    print_limit(b"4096 by 1 of 4095 values", grid_refused(2, 4095, 4096, 1));
+    print_limit(b"4096 by 1 of 4097 values", grid_refused(2, 4097, 4096, 1));
 }
 
-fn no_room() -> Room {
-    Room {
-        open: 0,
-        linked: 0,
-        worded: 0,
-        recorded: 0,
-    }
-}
-
-// Writes what came of a test at the limits.
-fn print_limit(holds: bool) {
-    if holds {
-        io::write_all(1, b"as expected\n");
-    } else {
-        io::write_all(1, b"DIFFERS\n");
-    }
-}
-
-fn print_replay(grids: u32, tally: Tally, count: usize) {
-    io::print_decimal(1, grids as u64);
-    io::write_all(1, b" grids replayed, ");
-    io::print_decimal(1, tally.differ as u64);
-    io::write_all(1, b" differ\n");
-    if tally.next == count {
-        io::write_all(1, b"the text ends with the last grid\n");
-    } else {
-        io::write_all(1, b"THE TEXT DOES NOT END with the last grid\n");
-    }
-}
-
-// Reads standard input, replays it, runs the limits, and writes what came of each.
-fn run(
-    text: &mut [u8; TEXT],
-    numbers: &mut [u32; NUMBERS],
-    values: &mut [f64; VALUES],
-    lines: &mut [u32; LINES],
-    links: &mut [u32; LINKS],
-    points: &mut [u16; POINTS],
-    directory: &mut [u32; DIRECTORY],
-) {
+// Reads standard input and replays it.
+fn run_text(text: &mut [u8; TEXT], numbers: &mut [u32; NUMBERS]) {
     let length = io::read_full(0, text);
     let count = parse(text, length, numbers);
-    let grids = word(numbers, 0);
-    let tally = replay(numbers, grids, values, lines, links, points, directory);
-    print_replay(grids, tally, count);
-    raise(values);
-    io::write_all(1, b"4096 by 1: ");
-    print_limit(longest_passes(4096, 1, values, lines, links, points, directory));
-    io::write_all(1, b"1 by 4096: ");
-    print_limit(longest_passes(1, 4096, values, lines, links, points, directory));
-    io::write_all(1, b"4097 by 1: ");
-    print_limit(grid_refused(1, 4097, 4097, 1, values, lines, links, points, directory));
-    io::write_all(1, b"1 by 4097: ");
-    print_limit(grid_refused(1, 4097, 1, 4097, values, lines, links, points, directory));
-    io::write_all(1, b"0 by 1: ");
-    print_limit(grid_refused(1, 0, 0, 1, values, lines, links, points, directory));
-    io::write_all(1, b"1 by 0: ");
-    print_limit(grid_refused(1, 0, 1, 0, values, lines, links, points, directory));
-    io::write_all(1, b"4096 by 1 of 4095 values: ");
-    print_limit(grid_refused(2, 4095, 4096, 1, values, lines, links, points, directory));
-    io::write_all(1, b"4096 by 1 of 4097 values: ");
-    print_limit(grid_refused(2, 4097, 4096, 1, values, lines, links, points, directory));
+    replay(numbers, count);
 }
 
 fn main() {
     let mut text = [0u8; TEXT];
     let mut numbers = [0u32; NUMBERS];
-    let mut values = [0.0f64; VALUES];
-    let mut lines = [0u32; LINES];
-    let mut links = [0u32; LINKS];
-    let mut points = [0u16; POINTS];
-    let mut directory = [0u32; DIRECTORY];
-    run(
-        &mut text,
-        &mut numbers,
-        &mut values,
-        &mut lines,
-        &mut links,
-        &mut points,
-        &mut directory,
-    );
+    run_text(&mut text, &mut numbers);
+    run_limits();
 }

@@ -1,0 +1,380 @@
+// What programs share that hold the library to a text of answers: reading the text, lending tables and looking at their words afterwards, and writing what
+// came of it. They only test, so that each function is safe and ends is all that is proved. A word past the end of a table reads 0.
+use isoringbuilder::Built;
+use isoringbuilder::SecondReport;
+use scan::FirstReport;
+use std::num::wrapping_add_usize;
+
+// How much text is read, and how many numbers it may hold.
+pub const TEXT: usize = 1048576;
+
+pub const NUMBERS: usize = 524288;
+
+// The samples, and the words of the tables that are lent: for the grids of a text, and for a grid of the longest side all above.
+pub const VALUES: usize = 4104;
+
+pub const LINES: usize = 64;
+
+pub const LINKS: usize = 640;
+
+pub const POINTS: usize = 1536;
+
+pub const DIRECTORY: usize = 640;
+
+pub const LONG_LINES: usize = 4104;
+
+pub const LONG_LINKS: usize = 16392;
+
+pub const LONG_POINTS: usize = 16392;
+
+// What the words of a table hold before a call. No point and no record has it.
+pub const SOIL: u32 = 65535;
+
+pub const SOILED: u16 = 65535;
+
+// The code of a call that passed with other counts. No refusal has it.
+const MISCOUNTED: u32 = 99;
+
+// Segments, peak of open lines, rings and points.
+pub struct Counts {
+    pub segments: u32,
+    pub peak: u32,
+    pub rings: u32,
+    pub points: u32,
+}
+
+// The words that a call is lent of each table.
+pub struct Room {
+    pub open: usize,
+    pub linked: usize,
+    pub worded: usize,
+    pub recorded: usize,
+}
+
+// A grid, and the counts and the room that are expected of it.
+pub struct Case {
+    pub dx: usize,
+    pub dy: usize,
+    pub samples: usize,
+    pub counts: Counts,
+    pub room: Room,
+}
+
+// A word of a table.
+pub fn word(table: &[u32], i: usize) -> u32 {
+    word_or(table, i, 0)
+}
+
+// A word of a table, or another past the end.
+fn word_or(table: &[u32], i: usize, otherwise: u32) -> u32 {
+    if i < table.len() { table[i] } else { otherwise }
+}
+
+fn coordinate(points: &[u16], i: usize) -> u32 {
+    if i < points.len() {
+        widened(points[i])
+    } else {
+        0
+    }
+}
+
+fn widened(x: u16) -> u32 {
+    x as u32
+}
+
+fn byte(text: &[u8], i: usize) -> u8 {
+    if i < text.len() { text[i] } else { 0 }
+}
+
+// Stores a word of a table. Past the end nothing is stored.
+fn put(table: &mut [u32], i: usize, value: u32) {
+    if i < table.len() {
+        table[i] = value;
+    }
+}
+
+// Stores a sample. Past the end nothing is stored.
+pub fn put_sample(values: &mut [f64], i: usize, value: u32) {
+    if i < values.len() {
+        values[i] = value as f64;
+    }
+}
+
+// A table from word n on.
+pub fn after(table: &[u32], n: usize) -> &[u32] {
+    if n <= table.len() { &table[n..] } else { table }
+}
+
+// The words of a table from one to before another.
+pub fn part(table: &[u32], from: usize, to: usize) -> &[u32] {
+    if from <= table.len() && from <= to && to <= table.len() {
+        &table[from..to]
+    } else {
+        table
+    }
+}
+
+// The words of the points from one to before another.
+pub fn points_part(points: &[u16], from: usize, to: usize) -> &[u16] {
+    if from <= points.len() && from <= to && to <= points.len() {
+        &points[from..to]
+    } else {
+        points
+    }
+}
+
+// The first n samples.
+pub fn samples(values: &[f64], n: usize) -> &[f64] {
+    if n <= values.len() {
+        &values[0..n]
+    } else {
+        values
+    }
+}
+
+// The first n words of a table, to be lent.
+pub fn lent(table: &mut [u32], n: usize) -> &mut [u32] {
+    if n <= table.len() {
+        &mut table[0..n]
+    } else {
+        table
+    }
+}
+
+// The first n words of the points, to be lent.
+pub fn points_lent(points: &mut [u16], n: usize) -> &mut [u16] {
+    if n <= points.len() {
+        &mut points[0..n]
+    } else {
+        points
+    }
+}
+
+// The smaller of two numbers.
+pub fn least(a: usize, b: usize) -> usize {
+    if a < b { a } else { b }
+}
+
+// Whether the words of a table are those wanted, and all one word where no more are listed.
+pub fn same_words(table: &[u32], wanted: &[u32], otherwise: u32) -> bool {
+    for i in 0..table.len() {
+        if word(table, i) != word_or(wanted, i, otherwise) {
+            return false;
+        }
+    }
+    true
+}
+
+// Whether the words of the points are those wanted, and all one word where no more are listed.
+pub fn same_points(points: &[u16], wanted: &[u32], otherwise: u32) -> bool {
+    for i in 0..points.len() {
+        if coordinate(points, i) != word_or(wanted, i, otherwise) {
+            return false;
+        }
+    }
+    true
+}
+
+// Whether the work tables that were lent are as a call with this code leaves them: zero unless it was refused before the build.
+pub fn work_holds(lines: &[u32], links: &[u32], code: u32) -> bool {
+    let left = if code == 0 || 7 <= code { 0 } else { SOIL };
+    let none = [0u32; 0];
+    same_words(lines, &none, left) && same_words(links, &none, left)
+}
+
+// Whether the points and the directory that were lent are as a refused call leaves them.
+pub fn spared(points: &[u16], directory: &[u32]) -> bool {
+    let none = [0u32; 0];
+    same_points(points, &none, SOIL) && same_words(directory, &none, SOIL)
+}
+
+// A number with one more digit. Numbers of more than eight digits lose their front.
+fn appended(value: u32, digit: u8) -> u32 {
+    value % 10000000 * 10 + (digit % 16) as u32
+}
+
+fn is_digit(b: u8) -> bool {
+    48 <= b && b <= 57
+}
+
+// What a number stands for: itself, and 99999999 for the owner of a ring that has none.
+fn meant(value: u32) -> u32 {
+    if value == 99999999 { 4294967295 } else { value }
+}
+
+// The numbers of the first `end` bytes of a text in order, and how many they are. Each ends with a space or the end of its line.
+pub fn parse(text: &[u8; TEXT], end: usize, numbers: &mut [u32; NUMBERS]) -> usize {
+    let mut count: usize = 0;
+    let mut value: u32 = 0;
+    for i in 0..end {
+        let b = byte(text, i);
+        if is_digit(b) {
+            value = appended(value, b);
+        } else {
+            put(numbers, count, meant(value));
+            count = wrapping_add_usize(count, 1);
+            value = 0;
+        }
+    }
+    count
+}
+
+// The room that a grid of these counts needs.
+fn exact_room(dx: u32, counts: Counts) -> Room {
+    Room {
+        open: 4 * (counts.peak as usize) + dx as usize + 2,
+        linked: 2 * (counts.segments as usize),
+        worded: 2 * (counts.points as usize),
+        recorded: 4 * (counts.rings as usize),
+    }
+}
+
+fn sample_count(dx: u32, dy: u32) -> usize {
+    (dx as usize) * (dy as usize)
+}
+
+// A grid of these sides and counts, with all its samples and the room that it needs.
+pub fn case_of(dx: u32, dy: u32, counts: Counts) -> Case {
+    let room = exact_room(dx, counts);
+    Case {
+        dx: dx as usize,
+        dy: dy as usize,
+        samples: sample_count(dx, dy),
+        counts,
+        room,
+    }
+}
+
+// A grid that is refused: no word of any table is lent.
+pub fn refused_case(dx: usize, dy: usize, samples: usize) -> Case {
+    let counts = Counts {
+        segments: 0,
+        peak: 0,
+        rings: 0,
+        points: 0,
+    };
+    let room = Room {
+        open: 0,
+        linked: 0,
+        worded: 0,
+        recorded: 0,
+    };
+    Case {
+        dx,
+        dy,
+        samples,
+        counts,
+        room,
+    }
+}
+
+// The counts of the longest grid of one row or one column, all above.
+pub fn longest_counts() -> Counts {
+    Counts {
+        segments: 8194,
+        peak: 1,
+        rings: 1,
+        points: 8195,
+    }
+}
+
+fn one_less_if(is_short: bool, n: usize) -> usize {
+    if is_short && 0 < n { n - 1 } else { n }
+}
+
+// Whether a room takes long tables.
+pub fn is_long(room: Room) -> bool {
+    LINES < room.open || LINKS < room.linked
+}
+
+// The room with one table a word short: the one whose refusal has this number.
+pub fn short_room(room: Room, number: u32) -> Room {
+    Room {
+        open: one_less_if(number == 5, room.open),
+        linked: one_less_if(number == 6, room.linked),
+        worded: one_less_if(number == 7, room.worded),
+        recorded: one_less_if(number == 8, room.recorded),
+    }
+}
+
+// The code to this room with table `number` a word short: none where that table needs no word at all. Numbers below are of the grid and not of a table.
+pub fn short_code(room: Room, number: u32) -> u32 {
+    if number <= 5 || 0 < room.linked {
+        number
+    } else {
+        0
+    }
+}
+
+// The code of a call that is lent no points and no directory, where one that is lent them has this code.
+pub fn work_code(code: u32) -> u32 {
+    if code == 7 || code == 8 { 0 } else { code }
+}
+
+// The code of a first report that is to have these counts.
+pub fn first_code(report: FirstReport, counts: Counts) -> u32 {
+    match report {
+        FirstReport::Refused(refusal) => error::number(refusal),
+        FirstReport::Room { segments, peak } => {
+            if segments == counts.segments && peak == counts.peak {
+                0
+            } else {
+                MISCOUNTED
+            }
+        }
+    }
+}
+
+// The code of a second report that is to have these counts.
+pub fn second_code(report: SecondReport, counts: Counts) -> u32 {
+    match report {
+        SecondReport::Refused(refusal) => error::number(refusal),
+        SecondReport::Room {
+            segments,
+            rings,
+            peak,
+            points,
+        } => {
+            if segments == counts.segments
+                && rings == counts.rings
+                && peak == counts.peak
+                && points == counts.points
+            {
+                0
+            } else {
+                MISCOUNTED
+            }
+        }
+    }
+}
+
+// The code of a build that is to have this many rings.
+pub fn built_code(built: Built, rings: u32) -> u32 {
+    match built {
+        Built::Refused(refusal) => error::number(refusal),
+        Built::Rings(count) => { if count == rings { 0 } else { MISCOUNTED } }
+    }
+}
+
+// Writes how many grids were replayed and differ, and whether the text ends with the last.
+pub fn print_replay(grids: u32, differ: u32, is_whole: bool) {
+    io::print_decimal(1, grids as u64);
+    io::write_all(1, b" grids replayed, ");
+    io::print_decimal(1, differ as u64);
+    io::write_all(1, b" differ\n");
+    if is_whole {
+        io::write_all(1, b"the text ends with the last grid\n");
+    } else {
+        io::write_all(1, b"THE TEXT DOES NOT END with the last grid\n");
+    }
+}
+
+// Writes what came of a test at the limits.
+pub fn print_limit(what: &[u8], holds: bool) {
+    io::write_all(1, what);
+    if holds {
+        io::write_all(1, b": as expected\n");
+    } else {
+        io::write_all(1, b": DIFFERS\n");
+    }
+}
