@@ -12,6 +12,7 @@ use Rattle.scope.specs.Cells.{Point}
 use Rattle.scope.specs.Stitching.{Line}
 use Rattle.scope.specs.Pairs.{sumFrom}
 use Rattle.scope.specs.Tables.{ringWords, packedPoints, firstPoint}
+use Rattle.laws.proofs.Sums.{sum-last}
 use Rattle.laws.proofs.Total.{total}
 use Rattle.laws.proofs.Conservation.{Each}
 use Rattle.laws.proofs.Rings.{Chain, Within, RingLaw}
@@ -105,12 +106,6 @@ unfolding packedPoints total
 packed-length [] = refl
 packed-length (ring ∷ rings) = omega (arith, length-append (ringWords ring) (packedPoints rings), ring-length ring, packed-length rings)
 
--- a sum's last number
-sum-last : (f : ℕ → ℕ) (i n k : ℕ) → i + n ≡ k → sumFrom f i (suc n) ≡ sumFrom f i n + f k
-unfolding sumFrom
-sum-last f i zero k e = let at : i ≡ k = omega arith in omega (arith, ap f at)
-sum-last f i (suc n) k e = omega (arith, sum-last f (suc i) n k (omega arith))
-
 -- what is asked of each ring
 pub record Drawn (ring : Line) : Type 0 where
   pub some : 1 ≤ length ring
@@ -134,7 +129,7 @@ module _ {rings : List Line} {points directory : List ℕ} (laid : Laid rings po
   unfolding startOf sumFrom firstPoint
   start-is zero h = refl
   start-is (suc r) h =
-      sum-last (recordCount directory) 0 r r (omega arith) ∙ omega (arith, start-is r (omega arith), laid .counts-are r h, first-before rings r h)
+      sum-last (recordCount directory) r ∙ omega (arith, start-is r (omega arith), laid .counts-are r h, first-before rings r h)
 
   ring-in : (r : ℕ) → r < length rings → ringIn points (startOf directory r) (recordCount directory r) ≡ getD rings r []
   ring-in r h =

@@ -1,14 +1,14 @@
 -- How many words the points and the records of a contour and of a band are. By induction on the rings. Assumes nothing.
 use mathlib.Core.Path.{_≡_, refl, sym, _∙_, ap}
-use mathlib.Core.Bool.{Bool, true, false, cond}
+use mathlib.Core.Bool.{Bool}
 use mathlib.Core.List.{List, [], _∷_, _++_, append-assoc}
 use Prim.Native.Nat.{ℕ, suc, _+_, _*_}
 use native.Mathlib.Omega.{arith}
-use lib.Dec.{leb}
 use lib.ListN.{length, length-append}
 use Rattle.scope.specs.Stitching.{Line}
 use Rattle.scope.specs.Contour.{Fate, contourFates, contourClasses, fatesBy}
-use Rattle.scope.specs.Band.{sortKey, Numbered, numberedFrom, insert, sorted, bandOrder, orderRings, classesFrom, bandFates}
+use Rattle.scope.specs.Band.{sortKey, Numbered, numberedFrom, sorted, bandOrder, orderRings, classesFrom, bandFates}
+use Rattle.sorting.proofs.TwoPasses.{by-length, sorted-is-by}
 use Rattle.scope.specs.Tables.{ringWords, packedPoints, recordOf, orderedRecords, contourRecords, bandRecords}
 
 pub packed-both : (lower upper : List Line) → packedPoints (lower ++ upper) ≡ packedPoints lower ++ packedPoints upper
@@ -16,19 +16,8 @@ unfolding packedPoints
 packed-both [] upper = refl
 packed-both (ring ∷ lower) upper = ap (λ (l : List ℕ). ringWords ring ++ l) (packed-both lower upper) ∙ sym (append-assoc (ringWords ring) (packedPoints lower) (packedPoints upper))
 
-inserted-length : (m : Numbered) (ns : List Numbered) → length (insert m ns) ≡ suc (length ns)
-unfolding insert
-inserted-length m [] = refl
-inserted-length m (n ∷ ns) = by (leb (sortKey (m .ring)) (sortKey (n .ring))) (inserted-length m ns)
-  where
-    by : (b : Bool) → length (insert m ns) ≡ suc (length ns) → length (cond b (m ∷ n ∷ ns) (n ∷ insert m ns)) ≡ suc (suc (length ns))
-    by true e = refl
-    by false e = ap suc e
-
 sorted-length : (ns : List Numbered) → length (sorted ns) ≡ length ns
-unfolding sorted
-sorted-length [] = refl
-sorted-length (n ∷ ns) = inserted-length n (sorted ns) ∙ ap suc (sorted-length ns)
+sorted-length ns = ap length (sorted-is-by ns) ∙ by-length (λ n. sortKey (n .ring)) ns
 
 numbered-length : (k : ℕ) (rings : List Line) → length (numberedFrom k rings) ≡ length rings
 unfolding numberedFrom

@@ -256,7 +256,8 @@ fn fill_chunks(points: &[u16], table: &mut [u32], count: usize, place: usize)
     }
 }
 
-// A ladder over the points in packed order, 64 points an item, with all its extents from word `free` on, as many as there is room for.
+// A ladder over the points in packed order, 64 points an item, with all its extents from word `free` on: as many items as two thirds of the room there hold, so
+// that groups and blocks find room too. The points behind the last whole item have none.
 pub fn chunk(points: &[u16], table: &mut [u32], free: usize) -> Ladder
     requires { ⌜ free ≤ length (now table) ⌝ }
     ensures { λ r. ⌜ ChunkedOver (now (points .entry)) (now (table .entry)) (now (table .exit)) free r ⌝ }

@@ -10,7 +10,7 @@ use Rattle.extents.specs.Ladders.{itemExtent, groupExtent, blockExtent, Raised,
 use Rattle.extents.specs.Records.{recordRing, recordNumber, RingsThere, Permutes, rankOf, Filed}
 use Rattle.extents.proofs.Stores.{extent-kept}
 use Rattle.filing.specs.Steps.{Ranked, Measurable, Measured, ladderEnd}
-use Rattle.filing.proofs.Permutes.{taken-below}
+use Rattle.extents.proofs.Permutes.{taken-below}
 use Rattle.filing.proofs.Ranks.{rank-below, ranks-permute}
 
 module _ {table table′ : List ℕ} {place : ℕ} (k : KeptBelow table table′ place) where

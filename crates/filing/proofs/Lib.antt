@@ -1,5 +1,4 @@
--- What the proofs of this crate share, and in `Permutes` what its callers cite.
-pub mod Permutes
+-- What the proofs of this crate share.
 pub mod Ranks
 pub mod Measures
 pub mod Keeping

@@ -9,7 +9,7 @@ use lib.ListN.{length, set, length-set}
 use lib.Seq.{getD-set-same, getD-set-other}
 use Rattle.extents.specs.Records.{recordNumber, Permutes, rankOf}
 use Rattle.filing.specs.Steps.{Rankable, Ranked}
-use Rattle.filing.proofs.Permutes.{taken-below, taken-once, taken-somewhere, back-permutes}
+use Rattle.extents.proofs.Permutes.{taken-below, taken-once, taken-somewhere, back-permutes}
 
 -- the first r records stand at their numbers
 pub record RankedTo (directory start : List ℕ) (n : ℕ) (table : List ℕ) (r : ℕ) : Type 0 where

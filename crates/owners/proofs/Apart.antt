@@ -14,7 +14,7 @@ use Rattle.extents.specs.Ladders.{itemExtent, NextNear}
 use Rattle.extents.specs.Records.{recordRing, recordClass, rankOf, Filed}
 use Rattle.nearness.proofs.Taking.{apart-is-not-taken}
 use Rattle.owners.specs.Searched.{takesOther, mayOwn}
-use Rattle.owners.proofs.Ranks.{rank-below}
+use Rattle.extents.proofs.Permutes.{taken-below}
 
 -- an extent in a table holds two words of 16 bits for its left and top
 item-fits : (table : List ℕ) (l : Ladder) (i : ℕ) → (itemExtent table l i .left ≤ 65535) × (itemExtent table l i .top ≤ 65535)
@@ -33,7 +33,7 @@ module _ {points directory table : List ℕ} {n : ℕ} {rings chunks : Ladder} (
       let fits = item-fits table rings k in
       let filed = f .extents-filed k below in
       apart-is-not-taken (recordRing points directory (rankOf table n k)) (recordRing points directory at)
-      (f .rings-there .ring-there (rankOf table n k) (rank-below (rankOf table n) n (f .ranks-permute) k below) .stepping)
+      (f .rings-there .ring-there (rankOf table n k) (taken-below (rankOf table n) n (f .ranks-permute) k below) .stepping)
       (omega (arith, ap (λ (e : Extent). e .left) filed, fits .0))
       (omega (arith, ap (λ (e : Extent). e .top) filed, fits .1))
       (rw filed at far)

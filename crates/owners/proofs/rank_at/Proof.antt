@@ -5,7 +5,7 @@ use native.Mathlib.Omega.{arith}
 use borrow.Author.Needs.{needs}
 use Rattle.scope.specs.Limits.{noOwner}
 use Rattle.extents.specs.Records.{rankOf}
-use Rattle.owners.proofs.Ranks.{rank-below}
+use Rattle.extents.proofs.Permutes.{taken-below}
 use Rattle.owners.proofs.rank_at.Statement.{statement}
 use Rattle.owners.proofs.rank_at.Tie as tie
 
@@ -28,7 +28,7 @@ returns c =
     let asked = c .before .pre in
     record {
       is-rank = refl;
-      below = rank-below (rankOf (args .table .now) (args .n)) (args .n) (asked .1) (args .number) (asked .2);
+      below = taken-below (rankOf (args .table .now) (args .n)) (args .n) (asked .1) (args .number) (asked .2);
       fits = omega (arith, c .shared-slice-known .given (2 * args .n + args .number));
     }
 
