@@ -30,6 +30,7 @@ use replaying::is_long;
 use replaying::least;
 use replaying::lent;
 use replaying::longest_counts;
+use replaying::one_if;
 use replaying::parse;
 use replaying::points_lent;
 use replaying::points_part;
@@ -78,7 +79,7 @@ fn first_holds(asked: Asked, values: &[f64; VALUES], thresholds: &[f64], code: u
     first_code(report, case.counts) == code
 }
 
-// Whether the second report of a band has this code, and leaves the work tables as it should.
+// Whether the second report of a band has this code. A contour has none of its own.
 fn second_holds(
     asked: Asked,
     values: &[f64; VALUES],
@@ -93,19 +94,20 @@ fn second_holds(
     let case = asked.case;
     let grid = samples(values, case.samples);
     let report = band_second_report(grid, thresholds, asked.k, case.dx, case.dy, lines, links);
-    (second_code(report, case.counts) == code) & work_holds(lines, links, code)
+    second_code(report, case.counts) == code
 }
 
-// The code of a band.
-fn band_code(
+// Whether `isobands` has this code.
+fn band_holds(
     asked: Asked,
     values: &[f64; VALUES],
     thresholds: &[f64],
+    code: u32,
     lines: &mut [u32],
     links: &mut [u32],
     points: &mut [u16],
     directory: &mut [u32],
-) -> u32 {
+) -> bool {
     let case = asked.case;
     let grid = samples(values, case.samples);
     let built = isobands(
@@ -119,19 +121,20 @@ fn band_code(
         points,
         directory,
     );
-    built_code(built, case.counts.rings)
+    built_code(built, case.counts.rings) == code
 }
 
-// The code of a contour.
-fn contour_code(
+// Whether `contours` has this code.
+fn contour_holds(
     asked: Asked,
     values: &[f64; VALUES],
     thresholds: &[f64],
+    code: u32,
     lines: &mut [u32],
     links: &mut [u32],
     points: &mut [u16],
     directory: &mut [u32],
-) -> u32 {
+) -> bool {
     let case = asked.case;
     let grid = samples(values, case.samples);
     let level = level(thresholds, asked.k);
@@ -145,10 +148,10 @@ fn contour_code(
         points,
         directory,
     );
-    built_code(built, case.counts.rings)
+    built_code(built, case.counts.rings) == code
 }
 
-// Whether the build has this code, and leaves the work tables as it should.
+// Whether the build that is asked for has this code.
 fn build_holds(
     asked: Asked,
     values: &[f64; VALUES],
@@ -160,11 +163,28 @@ fn build_holds(
     directory: &mut [u32],
 ) -> bool {
     if asked.is_band {
-        let band = band_code(asked, values, thresholds, lines, links, points, directory);
-        return (band == code) & work_holds(lines, links, code);
+        band_holds(
+            asked,
+            values,
+            thresholds,
+            code,
+            lines,
+            links,
+            points,
+            directory,
+        )
+    } else {
+        contour_holds(
+            asked,
+            values,
+            thresholds,
+            code,
+            lines,
+            links,
+            points,
+            directory,
+        )
     }
-    let contour = contour_code(asked, values, thresholds, lines, links, points, directory);
-    (contour == code) & work_holds(lines, links, code)
 }
 
 // Whether points and directory are as a build with this code leaves them. Points that are not listed are not looked at.
@@ -183,7 +203,7 @@ fn outputs_hold(
     }
 }
 
-// Whether both calls that are lent tables have this code, and leave the tables as they should.
+// Whether the calls that are lent tables have this code, and leave the tables as they should.
 fn tables_hold(
     asked: Asked,
     records: &[u32],
@@ -206,11 +226,16 @@ fn tables_hold(
         points,
         directory,
     );
+    let is_left = work_holds(lines, links, code);
     let is_reported = second_holds(asked, values, thresholds, work_code(code), lines, links);
-    is_built & is_reported & outputs_hold(code, records, listed, points, directory)
+    is_built
+        & is_left
+        & is_reported
+        & work_holds(lines, links, code)
+        & outputs_hold(code, records, listed, points, directory)
 }
 
-// Whether the tables hold in a room whose table `number` is a word short, where there is one of this number.
+// The same in tables that are lent the room that the case needs, but table `number` a word less.
 fn room_holds(
     asked: Asked,
     records: &[u32],
@@ -239,7 +264,34 @@ fn room_holds(
     )
 }
 
-// The same in tables of its own, long where the case takes them.
+// The same in long tables of its own, whose words are soil.
+fn long_holds(
+    asked: Asked,
+    records: &[u32],
+    listed: &[u32],
+    values: &[f64; VALUES],
+    thresholds: &[f64],
+    number: u32,
+) -> bool {
+    let mut lines = [SOIL; LONG_LINES];
+    let mut links = [SOIL; LONG_LINKS];
+    let mut points = [SOILED; LONG_POINTS];
+    let mut directory = [SOIL; DIRECTORY];
+    room_holds(
+        asked,
+        records,
+        listed,
+        values,
+        thresholds,
+        number,
+        &mut lines,
+        &mut links,
+        &mut points,
+        &mut directory,
+    )
+}
+
+// The same in tables of its own, long ones where the case needs them.
 fn holds(
     asked: Asked,
     records: &[u32],
@@ -248,40 +300,25 @@ fn holds(
     thresholds: &[f64],
     number: u32,
 ) -> bool {
-    let mut directory = [SOIL; DIRECTORY];
     if is_long(asked.case.room) {
-        let mut lines = [SOIL; LONG_LINES];
-        let mut links = [SOIL; LONG_LINKS];
-        let mut points = [SOILED; LONG_POINTS];
-        room_holds(
-            asked,
-            records,
-            listed,
-            values,
-            thresholds,
-            number,
-            &mut lines,
-            &mut links,
-            &mut points,
-            &mut directory,
-        )
-    } else {
-        let mut lines = [SOIL; LINES];
-        let mut links = [SOIL; LINKS];
-        let mut points = [SOILED; POINTS];
-        room_holds(
-            asked,
-            records,
-            listed,
-            values,
-            thresholds,
-            number,
-            &mut lines,
-            &mut links,
-            &mut points,
-            &mut directory,
-        )
+        return long_holds(asked, records, listed, values, thresholds, number);
     }
+    let mut lines = [SOIL; LINES];
+    let mut links = [SOIL; LINKS];
+    let mut points = [SOILED; POINTS];
+    let mut directory = [SOIL; DIRECTORY];
+    room_holds(
+        asked,
+        records,
+        listed,
+        values,
+        thresholds,
+        number,
+        &mut lines,
+        &mut links,
+        &mut points,
+        &mut directory,
+    )
 }
 
 // Whether all calls answer as expected in exact room, and with each table one word short.
@@ -300,7 +337,7 @@ fn asked_holds(
         & holds(asked, records, listed, values, thresholds, 0)
 }
 
-// Whether contour and band hold: their cases, and their numbers from the records on.
+// Whether contour and band hold: their cases and records, and the band's points, which begin with the contour's.
 fn both_hold(
     contour: Case,
     band: Case,
@@ -389,10 +426,6 @@ fn next_grid(grid: &[u32]) -> &[u32] {
     after(after_records(band), 2 * (word(band, 3) as usize))
 }
 
-fn one_if(differs: bool) -> u32 {
-    if differs { 1 } else { 0 }
-}
-
 // Replays all grids of the text, which has this many numbers, and writes what came of it.
 fn replay(numbers: &[u32; NUMBERS], count: usize) {
     let grids = word(numbers, 0);
@@ -430,7 +463,7 @@ fn longest_passes(dx: u32, dy: u32) -> bool {
     )
 }
 
-// Whether all calls refuse this case by this number, which is below those of the tables. A contour takes any list.
+// Whether all calls refuse this case by this number, which is below those of the tables.
 fn refused(number: u32, case: Case, k: usize, is_band: bool, thresholds: &[f64]) -> bool {
     let values = [1.0f64; VALUES];
     let none = [0u32; 0];
@@ -449,7 +482,7 @@ fn grid_refused(number: u32, samples: usize, dx: usize, dy: usize) -> bool {
         & refused(number, case, 0, true, &none)
 }
 
-// Whether a band of this many thresholds, one or none, is refused whatever its number is.
+// Whether a list of one threshold or none is refused, whichever pair is asked for.
 fn list_refused(thresholds: &[f64]) -> bool {
     let case = refused_case(1, 1, 1);
     refused(3, case, 0, true, thresholds)
@@ -457,7 +490,7 @@ fn list_refused(thresholds: &[f64]) -> bool {
         & refused(3, case, 18446744073709551615, true, thresholds)
 }
 
-// Whether two thresholds have no pair 1 and no pair 18446744073709551615.
+// Whether of two thresholds every pair but the first is refused.
 fn pair_refused() -> bool {
     let case = refused_case(1, 1, 1);
     let thresholds = [1.0, 2.0];
@@ -477,7 +510,7 @@ fn run_limits() {
     print_limit(b"4096 by 1 of 4097 values", grid_refused(2, 4097, 4096, 1));
 }
 
-// Runs lists of thresholds without the pair that is asked for, and writes what came of each.
+// Runs lists that have not the pair that is asked for, and writes what came of each.
 fn run_lists() {
     let none = [0.0f64; 0];
     let one = [1.0f64];

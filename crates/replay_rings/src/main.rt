@@ -27,6 +27,7 @@ use replaying::is_long;
 use replaying::least;
 use replaying::lent;
 use replaying::longest_counts;
+use replaying::one_if;
 use replaying::parse;
 use replaying::part;
 use replaying::points_lent;
@@ -53,13 +54,14 @@ fn level() -> Level {
     Level { threshold: 1.0 }
 }
 
-// The code of the first report.
-fn first(case: Case, values: &[f64; VALUES]) -> u32 {
-    let report = first_report(samples(values, case.samples), level(), case.dx, case.dy);
-    first_code(report, case.counts)
+// Whether the first report has this code.
+fn first_holds(case: Case, values: &[f64; VALUES], code: u32) -> bool {
+    let grid = samples(values, case.samples);
+    let report = first_report(grid, level(), case.dx, case.dy);
+    first_code(report, case.counts) == code
 }
 
-// Whether the second report has this code, and leaves the work tables as it should.
+// Whether the second report has this code.
 fn second_holds(
     case: Case,
     values: &[f64; VALUES],
@@ -69,10 +71,10 @@ fn second_holds(
 ) -> bool {
     let grid = samples(values, case.samples);
     let report = second_report(grid, level(), case.dx, case.dy, lines, links);
-    (second_code(report, case.counts) == code) & work_holds(lines, links, code)
+    second_code(report, case.counts) == code
 }
 
-// Whether `contour_rings` has this code, and leaves the work tables as it should.
+// Whether `contour_rings` has this code.
 fn build_holds(
     case: Case,
     values: &[f64; VALUES],
@@ -93,7 +95,7 @@ fn build_holds(
         points,
         directory,
     );
-    (built_code(built, case.counts.rings) == code) & work_holds(lines, links, code)
+    built_code(built, case.counts.rings) == code
 }
 
 // Whether a ring in points and directory has these numbers, as many as are listed: a bare ring without owner.
@@ -147,11 +149,16 @@ fn tables_hold(
     directory: &mut [u32],
 ) -> bool {
     let is_built = build_holds(case, values, code, lines, links, points, directory);
+    let is_left = work_holds(lines, links, code);
     let is_reported = second_holds(case, values, work_code(code), lines, links);
-    is_built & is_reported & outputs_hold(case, numbers, code, points, directory)
+    is_built
+        & is_left
+        & is_reported
+        & work_holds(lines, links, code)
+        & outputs_hold(case, numbers, code, points, directory)
 }
 
-// Whether the tables hold in a room whose table `number` is a word short, where there is one of this number.
+// The same in tables that are lent the room that the case needs, but table `number` a word less.
 fn room_holds(
     case: Case,
     numbers: &[u32],
@@ -175,7 +182,7 @@ fn room_holds(
     )
 }
 
-// The same in tables of its own, long where the case takes them.
+// The same in tables of its own, whose words are soil, and long ones where the case needs them.
 fn holds(case: Case, numbers: &[u32], values: &[f64; VALUES], number: u32) -> bool {
     let mut directory = [SOIL; DIRECTORY];
     if is_long(case.room) {
@@ -226,7 +233,7 @@ fn fill(rows: &[u32], dx: usize, count: usize, values: &mut [f64; VALUES]) {
 
 // Whether all three calls answer as expected in exact room, and with each table one word short. The numbers are those of the rings.
 fn case_holds(case: Case, numbers: &[u32], values: &[f64; VALUES]) -> bool {
-    (first(case, values) == 0)
+    first_holds(case, values, 0)
         & holds(case, numbers, values, 5)
         & holds(case, numbers, values, 6)
         & holds(case, numbers, values, 7)
@@ -270,10 +277,6 @@ fn grid_length(grid: &[u32]) -> usize {
     5 + word(grid, 1) as usize + counts.rings as usize + 2 * (counts.points as usize)
 }
 
-fn one_if(differs: bool) -> u32 {
-    if differs { 1 } else { 0 }
-}
-
 // Replays all grids of the text, which has this many numbers, and writes what came of it.
 fn replay(numbers: &[u32; NUMBERS], count: usize) {
     let grids = word(numbers, 0);
@@ -299,7 +302,7 @@ fn grid_refused(number: u32, samples: usize, dx: usize, dy: usize) -> bool {
     let values = [1.0f64; VALUES];
     let numbers = [0u32; 0];
     let case = refused_case(dx, dy, samples);
-    (first(case, &values) == number) & holds(case, &numbers, &values, number)
+    first_holds(case, &values, number) & holds(case, &numbers, &values, number)
 }
 
 // Runs the limits of a side and of the number of values, and writes what came of each.

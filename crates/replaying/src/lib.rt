@@ -1,5 +1,6 @@
-// What programs share that hold the library to a text of answers: reading the text, lending tables and looking at their words afterwards, and writing what
-// came of it. They only test, so that each function is safe and ends is all that is proved. A word past the end of a table reads 0.
+// What programs share that hold the library to a text of answers: reading the text, lending tables and looking at every word of them afterwards, and writing
+// what came of it. They only test, so all that is proved of a function is that it is safe and ends. A word past the end of a table reads 0, and where a table
+// is shorter than a part that is asked for, the whole table is handed out.
 use isoringbuilder::Built;
 use isoringbuilder::SecondReport;
 use scan::FirstReport;
@@ -10,7 +11,7 @@ pub const TEXT: usize = 1048576;
 
 pub const NUMBERS: usize = 524288;
 
-// The samples, and the words of the tables that are lent: for the grids of a text, and for a grid of the longest side all above.
+// The samples, and the words of the tables that are lent: enough for the grids of a text, and long ones for a grid of the longest side all above.
 pub const VALUES: usize = 4104;
 
 pub const LINES: usize = 64;
@@ -32,7 +33,7 @@ pub const SOIL: u32 = 65535;
 
 pub const SOILED: u16 = 65535;
 
-// The code of a call that passed with other counts. No refusal has it.
+// A call's code is 0, the number of its refusal, or this one where it passed with other counts than expected.
 const MISCOUNTED: u32 = 99;
 
 // Segments, peak of open lines, rings and points.
@@ -105,7 +106,7 @@ pub fn after(table: &[u32], n: usize) -> &[u32] {
     if n <= table.len() { &table[n..] } else { table }
 }
 
-// The words of a table from one to before another.
+// The words of a table from word `from` to before word `to`.
 pub fn part(table: &[u32], from: usize, to: usize) -> &[u32] {
     if from <= table.len() && from <= to && to <= table.len() {
         &table[from..to]
@@ -114,7 +115,7 @@ pub fn part(table: &[u32], from: usize, to: usize) -> &[u32] {
     }
 }
 
-// The words of the points from one to before another.
+// The words of the points from word `from` to before word `to`.
 pub fn points_part(points: &[u16], from: usize, to: usize) -> &[u16] {
     if from <= points.len() && from <= to && to <= points.len() {
         &points[from..to]
@@ -175,7 +176,7 @@ pub fn same_points(points: &[u16], wanted: &[u32], otherwise: u32) -> bool {
     true
 }
 
-// Whether the work tables that were lent are as a call with this code leaves them: zero unless it was refused before the build.
+// Whether the work tables that were lent are as a call with this code leaves them: untouched after refusals 1 to 6, and else zero.
 pub fn work_holds(lines: &[u32], links: &[u32], code: u32) -> bool {
     let left = if code == 0 || 7 <= code { 0 } else { SOIL };
     let none = [0u32; 0];
@@ -297,7 +298,7 @@ pub fn short_room(room: Room, number: u32) -> Room {
     }
 }
 
-// The code to this room with table `number` a word short: none where that table needs no word at all. Numbers below are of the grid and not of a table.
+// The code in this room with table `number` a word short: 0 where that table needs no word at all. A number below 5 is no table's, and is the code itself.
 pub fn short_code(room: Room, number: u32) -> u32 {
     if number <= 5 || 0 < room.linked {
         number
@@ -354,6 +355,11 @@ pub fn built_code(built: Built, rings: u32) -> u32 {
         Built::Refused(refusal) => error::number(refusal),
         Built::Rings(count) => { if count == rings { 0 } else { MISCOUNTED } }
     }
+}
+
+// What a grid adds to the number of those that differ.
+pub fn one_if(differs: bool) -> u32 {
+    if differs { 1 } else { 0 }
 }
 
 // Writes how many grids were replayed and differ, and whether the text ends with the last.
