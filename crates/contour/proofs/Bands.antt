@@ -38,7 +38,7 @@ roomOver L U dx dy =
     second-is.Room (max (segmentCount L dx dy) (segmentCount U dx dy)) (ringCount L dx dy + ringCount U dx dy) (max (peak L dx dy) (peak U dx dy))
     (pointCount (segmentCount L dx dy) (ringCount L dx dy) + pointCount (segmentCount U dx dy) (ringCount U dx dy))
 
-abbrev pub planOver : GridFit → Sheet → Sheet → ℕ → ℕ → Plan
+abbrev pub planOver : GridFit → Sheet → Sheet → ℕ → ℕ → Plan ℕ
 planOver fit L U dx dy = record {
   fit = fit;
   rings = ringCount L dx dy + ringCount U dx dy;
@@ -94,7 +94,7 @@ records-fill L U dx dy = band-length (ringsOf L dx dy) (ringsOf U dx dy)
 
 -- ---- 2. a list of thresholds, and k
 
-abbrev pub bandPlan : List Float → List Float → ℕ → ℕ → ℕ → Plan
+abbrev pub bandPlan : List Float → List Float → ℕ → ℕ → ℕ → Plan ℕ
 bandPlan values thresholds k dx dy = planOver (bandFit (length values) dx dy (length thresholds) k) (lowerSheet values thresholds k dx dy) (upperSheet values thresholds k dx dy) dx dy
 
 abbrev pub bandRoomAt : List Float → List Float → ℕ → ℕ → ℕ → SecondReport

@@ -20,7 +20,7 @@ use Rattle.contour.proofs.Lowest.{rooms, andThen, answerBy, Answers, Ea
 abbrev pub workOf : GridFit → ℕ → ℕ → List ℕ → List ℕ → Verdict
 workOf fit openNeed linkNeed lines links = afterGrid fit (rooms OpenShort LinksShort (length lines) openNeed (length links) linkNeed)
 
-abbrev pub outputsOf : ℕ → ℕ → List ℕ → List ℕ → Verdict
+abbrev pub outputsOf : {Word : Type 0} → ℕ → ℕ → List Word → List ℕ → Verdict
 outputsOf pointNeed directoryNeed points directory = rooms PointsShort DirectoryShort (length points) pointNeed (length directory) directoryNeed
 
 -- the answer, by the work tables and a later verdict, and the work tables at exit
@@ -29,19 +29,19 @@ pub record Worked {Made : Type 0} (refuse : Refusal → Made) (give : Made) (fit
   pub lines-are : lines′ ≡ workAfter (workOf fit openNeed linkNeed lines links) openNeed lines
   pub links-are : links′ ≡ workAfter (workOf fit openNeed linkNeed lines links) linkNeed links
 
--- what a build is to come to: its fit, the number of rings, the words that each table needs, and the words of the outputs
-pub record Plan : Type 0 where
+-- what a build is to come to: its fit, the number of rings, the words that each table needs, and the words of the outputs, where points are words of any type
+pub record Plan (Word : Type 0) : Type 0 where
   pub fit : GridFit
   pub rings : ℕ
   pub openNeed : ℕ
   pub linkNeed : ℕ
   pub pointNeed : ℕ
   pub directoryNeed : ℕ
-  pub packed : List ℕ
+  pub packed : List Word
   pub records : List ℕ
 
 -- a build's answer, and all tables at exit
-pub record Constructed (plan : Plan) (lines links points directory : List ℕ) (answer : Built) (lines′ links′ points′ directory′ : List ℕ) : Type 0 where
+pub record Constructed {Word : Type 0} (plan : Plan Word) (lines links : List ℕ) (points : List Word) (directory : List ℕ) (answer : Built) (lines′ links′ : List ℕ) (points′ : List Word) (directory′ : List ℕ) : Type 0 where
   pub worked : Worked built-is.Refused (built-is.Rings (plan .rings)) (plan .fit) (plan .openNeed) (plan .linkNeed) (outputsOf (plan .pointNeed) (plan .directoryNeed) points directory) lines links answer lines′ links′
   pub points-are : points′ ≡ outputAfter (workOf (plan .fit) (plan .openNeed) (plan .linkNeed) lines links) (outputsOf (plan .pointNeed) (plan .directoryNeed) points directory) (plan .packed) points
   pub directory-is : directory′ ≡ outputAfter (workOf (plan .fit) (plan .openNeed) (plan .linkNeed) lines links) (outputsOf (plan .pointNeed) (plan .directoryNeed) points directory) (plan .records) directory
@@ -52,8 +52,8 @@ module _ {Made : Type 0} {refuse : Refusal → Made} {give : Made} {fit : GridFi
   pub one-worked : {p q : Made} {pl pk ql qk : List ℕ} → Worked refuse give fit openNeed linkNeed later lines links p pl pk → Worked refuse give fit openNeed linkNeed later lines links q ql qk → (p ≡ q) × (pl ≡ ql) × (pk ≡ qk)
   one-worked a b = (a .answers ∙ sym (b .answers), a .lines-are ∙ sym (b .lines-are), a .links-are ∙ sym (b .links-are))
 
-module _ {plan : Plan} {lines links points directory : List ℕ} where
-  pub one-construction : {p q : Built} {pl pk pp pd ql qk qp qd : List ℕ} → Constructed plan lines links points directory p pl pk pp pd → Constructed plan lines links points directory q ql qk qp qd
+module _ {Word : Type 0} {plan : Plan Word} {lines links : List ℕ} {points : List Word} {directory : List ℕ} where
+  pub one-construction : {p q : Built} {pl pk ql qk : List ℕ} {pp qp : List Word} {pd qd : List ℕ} → Constructed plan lines links points directory p pl pk pp pd → Constructed plan lines links points directory q ql qk qp qd
       → (p ≡ q) × (pl ≡ ql) × (pk ≡ qk) × (pp ≡ qp) × (pd ≡ qd)
   one-construction a b =
       let both = one-worked (a .worked) (b .worked) in
@@ -62,7 +62,7 @@ module _ {plan : Plan} {lines links points directory : List ℕ} where
 -- ---- 2. refused exactly
 
 -- a build's answer against what it needs and what it is lent
-abbrev pub Exact : Plan → List ℕ → List ℕ → List ℕ → List ℕ → Built → Type 0
+abbrev pub Exact : {Word : Type 0} → Plan Word → List ℕ → List ℕ → List Word → List ℕ → Built → Type 0
 Exact plan lines links points directory answer =
     BuildExact (plan .rings) answer (plan .fit) (length lines) (plan .openNeed) (length links) (plan .linkNeed) (length points) (plan .pointNeed) (length directory) (plan .directoryNeed)
 
@@ -71,8 +71,8 @@ module _ {Made : Type 0} {refuse : Refusal → Made} {give : Made} {fit : GridFi
       → ReportExact refuse give answer fit (length lines) openNeed (length links) linkNeed
   worked-exact o early {answer} k = report-exact fit early (length lines) openNeed (length links) linkNeed o answer (k .answers)
 
-module _ {plan : Plan} {lines links points directory : List ℕ} where
-  pub constructed-exact : Early 4 (plan .fit) → {answer : Built} {lines′ links′ points′ directory′ : List ℕ} → Constructed plan lines links points directory answer lines′ links′ points′ directory′
+module _ {Word : Type 0} {plan : Plan Word} {lines links : List ℕ} {points : List Word} {directory : List ℕ} where
+  pub constructed-exact : Early 4 (plan .fit) → {answer : Built} {lines′ links′ : List ℕ} {points′ : List Word} {directory′ : List ℕ} → Constructed plan lines links points directory answer lines′ links′ points′ directory′
       → Exact plan lines links points directory answer
   constructed-exact early {answer} k =
       build-exact (plan .fit) early (length lines) (plan .openNeed) (length links) (plan .linkNeed) (length points) (plan .pointNeed) (length directory) (plan .directoryNeed) (plan .rings) answer
@@ -81,25 +81,25 @@ module _ {plan : Plan} {lines links points directory : List ℕ} where
 -- ---- 3. exact room
 
 -- words that fill a table leave none of it
-nothing-past : (words table : List ℕ) (n : ℕ) → length table ≡ n → words ++ drop n table ≡ words
-nothing-past words table n e = ap (λ (l : List ℕ). words ++ l) (drop-of-length-le table {i = n} (omega arith)) ∙ append-nil words
+nothing-past : {Word : Type 0} (words table : List Word) (n : ℕ) → length table ≡ n → words ++ drop n table ≡ words
+nothing-past {Word} words table n e = ap (λ (l : List Word). words ++ l) (drop-of-length-le table {i = n} (omega arith)) ∙ append-nil words
 
 -- four tables that have just the room
-pub record JustRoom (plan : Plan) (lines links points directory : List ℕ) : Type 0 where
+pub record JustRoom {Word : Type 0} (plan : Plan Word) (lines links : List ℕ) (points : List Word) (directory : List ℕ) : Type 0 where
   pub lines-just : length lines ≡ plan .openNeed
   pub links-just : length links ≡ plan .linkNeed
   pub points-just : length points ≡ plan .pointNeed
   pub directory-just : length directory ≡ plan .directoryNeed
 
 -- all rings are given, points and records are the whole outputs, and both work tables are all zero
-pub record Filled (plan : Plan) (answer : Built) (lines′ links′ points′ directory′ : List ℕ) : Type 0 where
+pub record Filled {Word : Type 0} (plan : Plan Word) (answer : Built) (lines′ links′ : List ℕ) (points′ : List Word) (directory′ : List ℕ) : Type 0 where
   pub answer-is : answer ≡ built-is.Rings (plan .rings)
   pub points-are : points′ ≡ plan .packed
   pub directory-is : directory′ ≡ plan .records
   pub lines-are : lines′ ≡ replicate (plan .openNeed) 0
   pub links-are : links′ ≡ replicate (plan .linkNeed) 0
 
-module _ {plan : Plan} {lines links points directory : List ℕ} {answer : Built} {lines′ links′ points′ directory′ : List ℕ} where
+module _ {Word : Type 0} {plan : Plan Word} {lines links : List ℕ} {points : List Word} {directory : List ℕ} {answer : Built} {lines′ links′ : List ℕ} {points′ : List Word} {directory′ : List ℕ} where
   pub fills : plan .fit ≡ fit-is.Fits → length (plan .packed) ≡ plan .pointNeed → length (plan .records) ≡ plan .directoryNeed → JustRoom plan lines links points directory
       → Constructed plan lines links points directory answer lines′ links′ points′ directory′ → Filled plan answer lines′ links′ points′ directory′
   unfolding answerBy andThen workAfter outputAfter written zeroed

@@ -2,6 +2,7 @@
 -- filled to the last word, and the peak in the reports. The contracts are read as what a call over lent tables needs, answers and leaves. Assumes nothing.
 use mathlib.Core.Path.{_≡_, refl, sym, _∙_, subst}
 use mathlib.Core.Logic.{_↔_}
+use mathlib.Core.Bool.{Bool}
 use mathlib.Core.List.{List}
 use Prim.Native.Nat.{ℕ, suc, _+_, _*_, _/_, _≤_}
 use native.Mathlib.Omega.{arith}
@@ -14,7 +15,8 @@ use Rattle.scope.specs.Terrain.{Sheet, atLeast, terrain}
 use Rattle.scope.specs.Drawing.{segmentCount, ringCount, ringsOf, peak}
 use Rattle.scope.specs.Pairs.{sharedPairs}
 use Rattle.scope.specs.Room.{openWords, linkWords, pointCount, pointWords, directoryWords}
-use Rattle.scope.specs.Tables.{packedPoints, bareRecords, contourRecords}
+use Rattle.scope.specs.Smoothing.{Placing}
+use Rattle.scope.specs.Tables.{packedPoints, linePoints, bareRecords, contourRecords}
 use Rattle.laws.proofs.Edges.{Outside}
 use Rattle.laws.proofs.Laws.{the-peak-is-low, the-peak-is-highest, the-peak-is-reached}
 use Rattle.machine.proofs.Built.{packed-points-fill-their-room, records-fill-their-room}
@@ -32,6 +34,8 @@ use Rattle.isoringbuilder.specs.declared.Built.{Built}
 use Rattle.isoringbuilder.specs.declared.Built.the-variants as built-is
 use Rattle.contourbuilder.specs.Contours.{ContoursBuilt}
 use Rattle.contourbuilder.proofs.Lengths.{contour-length}
+use Rattle.plotting.proofs.Laws.{line-points-fill-their-room}
+use Rattle.linebuilder.specs.Lines.{LinesBuilt}
 use Rattle.contour.proofs.Lowest.{of-three, Early, fit-number, Answers, by-one, by-two, ReportExact}
 use Rattle.contour.proofs.Results.{Worked, Plan, Constructed, one-worked, one-construction, Exact, worked-exact, constructed-exact, JustRoom, Filled, fills}
 
@@ -93,25 +97,28 @@ module _ (values : List Float) (threshold : Float) (dx dy : ℕ) (lines links : 
 
 -- ---- 3. the builds
 
--- what the rings of a grid come to, with directory records of any kind
-abbrev pub drawnPlan : List Float → Float → ℕ → ℕ → List ℕ → Plan
-drawnPlan values threshold dx dy records = record {
+-- what the rings of a grid come to, with points and directory records of any kind
+abbrev pub drawnPlan : {Word : Type 0} → List Float → Float → ℕ → ℕ → List Word → List ℕ → Plan Word
+drawnPlan values threshold dx dy packed records = record {
   fit = gridFit (length values) dx dy;
   rings = ringCount (above values threshold dx dy) dx dy;
   openNeed = openWords dx (peak (above values threshold dx dy) dx dy);
   linkNeed = linkWords (segmentCount (above values threshold dx dy) dx dy);
   pointNeed = pointWords (segmentCount (above values threshold dx dy) dx dy) (ringCount (above values threshold dx dy) dx dy);
   directoryNeed = directoryWords (ringCount (above values threshold dx dy) dx dy);
-  packed = packedPoints (ringsOf (above values threshold dx dy) dx dy);
+  packed = packed;
   records = records;
 }
 
--- contour_rings' records are bare, and those of contours have the classes and owners
-abbrev pub ringsPlan : List Float → Float → ℕ → ℕ → Plan
-ringsPlan values threshold dx dy = drawnPlan values threshold dx dy (bareRecords 0 0 (ringsOf (above values threshold dx dy) dx dy))
+-- contour_rings' records are bare, and those of contours have the classes and owners; contour_lines' are bare too, and its points smoothed and placed
+abbrev pub ringsPlan : List Float → Float → ℕ → ℕ → Plan ℕ
+ringsPlan values threshold dx dy = drawnPlan values threshold dx dy (packedPoints (ringsOf (above values threshold dx dy) dx dy)) (bareRecords 0 0 (ringsOf (above values threshold dx dy) dx dy))
 
-abbrev pub contoursPlan : List Float → Float → ℕ → ℕ → Plan
-contoursPlan values threshold dx dy = drawnPlan values threshold dx dy (contourRecords (ringsOf (above values threshold dx dy) dx dy))
+abbrev pub contoursPlan : List Float → Float → ℕ → ℕ → Plan ℕ
+contoursPlan values threshold dx dy = drawnPlan values threshold dx dy (packedPoints (ringsOf (above values threshold dx dy) dx dy)) (contourRecords (ringsOf (above values threshold dx dy) dx dy))
+
+abbrev pub linesPlan : List Float → Float → ℕ → ℕ → Bool → Placing → Plan Float
+linesPlan values threshold dx dy smooth q = drawnPlan values threshold dx dy (linePoints smooth values threshold dx dy q (ringsOf (above values threshold dx dy) dx dy)) (bareRecords 0 0 (ringsOf (above values threshold dx dy) dx dy))
 
 module _ (values : List Float) (threshold : Float) (dx dy : ℕ) where
   abbrev A : Sheet
@@ -124,31 +131,33 @@ module _ (values : List Float) (threshold : Float) (dx dy : ℕ) where
   unfolding directoryWords recordStride ringCount
   contour-records-fill-their-room = contour-length (ringsOf A dx dy)
 
-  module _ (lines links points directory : List ℕ) where
-    drawn : (records : List ℕ) {answer : Built} {lines′ links′ points′ directory′ : List ℕ} → answer ≡ built (onEntry values threshold dx dy lines links) (onOutputs values threshold dx dy points directory) A dx dy
-        → lines′ ≡ workAfter (onEntry values threshold dx dy lines links) (openWords dx (peak A dx dy)) lines
-        → links′ ≡ workAfter (onEntry values threshold dx dy lines links) (linkWords (segmentCount A dx dy)) links
-        → points′ ≡ outputAfter (onEntry values threshold dx dy lines links) (onOutputs values threshold dx dy points directory) (packedPoints (ringsOf A dx dy)) points
-        → directory′ ≡ outputAfter (onEntry values threshold dx dy lines links) (onOutputs values threshold dx dy points directory) records directory
-        → Constructed (drawnPlan values threshold dx dy records) lines links points directory answer lines′ links′ points′ directory′
-    unfolding built workVerdict outputVerdict roomVerdict
-    drawn records a l k p d = record {
-      worked = record {
-        answers = a ∙ by-two built-is.Refused (built-is.Rings (ringCount A dx dy)) (λ v w. built v w A dx dy) (λ why w. refl) (λ why. refl) refl (onEntry values threshold dx dy lines links) (onOutputs values threshold dx dy points directory);
-        lines-are = l;
-        links-are = k;
-      };
-      points-are = p;
-      directory-is = d;
-    }
+  -- the five equations of such a contract
+  drawn : {Word : Type 0} (packed : List Word) (records lines links : List ℕ) (points : List Word) (directory : List ℕ) {answer : Built} {lines′ links′ : List ℕ} {points′ : List Word} {directory′ : List ℕ}
+      → answer ≡ built (onEntry values threshold dx dy lines links) (onOutputs values threshold dx dy points directory) A dx dy
+      → lines′ ≡ workAfter (onEntry values threshold dx dy lines links) (openWords dx (peak A dx dy)) lines
+      → links′ ≡ workAfter (onEntry values threshold dx dy lines links) (linkWords (segmentCount A dx dy)) links
+      → points′ ≡ outputAfter (onEntry values threshold dx dy lines links) (onOutputs values threshold dx dy points directory) packed points
+      → directory′ ≡ outputAfter (onEntry values threshold dx dy lines links) (onOutputs values threshold dx dy points directory) records directory
+      → Constructed (drawnPlan values threshold dx dy packed records) lines links points directory answer lines′ links′ points′ directory′
+  unfolding built workVerdict outputVerdict roomVerdict
+  drawn packed records lines links points directory a l k p d = record {
+    worked = record {
+      answers = a ∙ by-two built-is.Refused (built-is.Rings (ringCount A dx dy)) (λ v w. built v w A dx dy) (λ why w. refl) (λ why. refl) refl (onEntry values threshold dx dy lines links) (onOutputs values threshold dx dy points directory);
+      lines-are = l;
+      links-are = k;
+    };
+    points-are = p;
+    directory-is = d;
+  }
 
+  module _ (lines links points directory : List ℕ) where
     rings-constructed : {answer : Built} {lines′ links′ points′ directory′ : List ℕ} → RingsBuilt values threshold dx dy lines links points directory answer lines′ links′ points′ directory′
         → Constructed (ringsPlan values threshold dx dy) lines links points directory answer lines′ links′ points′ directory′
-    rings-constructed k = drawn (bareRecords 0 0 (ringsOf A dx dy)) (k .answers) (k .lines-are) (k .links-are) (k .points-are) (k .directory-is)
+    rings-constructed k = drawn (packedPoints (ringsOf A dx dy)) (bareRecords 0 0 (ringsOf A dx dy)) lines links points directory (k .answers) (k .lines-are) (k .links-are) (k .points-are) (k .directory-is)
 
     contours-constructed : {answer : Built} {lines′ links′ points′ directory′ : List ℕ} → ContoursBuilt values threshold dx dy lines links points directory answer lines′ links′ points′ directory′
         → Constructed (contoursPlan values threshold dx dy) lines links points directory answer lines′ links′ points′ directory′
-    contours-constructed k = drawn (contourRecords (ringsOf A dx dy)) (k .answers) (k .lines-are) (k .links-are) (k .points-are) (k .directory-is)
+    contours-constructed k = drawn (packedPoints (ringsOf A dx dy)) (contourRecords (ringsOf A dx dy)) lines links points directory (k .answers) (k .lines-are) (k .links-are) (k .points-are) (k .directory-is)
 
     -- two results that meet the contract of contour_rings, or that of contours, on the same entry are equal
     pub one-build : {p q : Built} {pl pk pp pd ql qk qp qd : List ℕ} → RingsBuilt values threshold dx dy lines links points directory p pl pk pp pd → RingsBuilt values threshold dx dy lines links points directory q ql qk qp qd
@@ -177,6 +186,24 @@ module _ (values : List Float) (threshold : Float) (dx dy : ℕ) where
       pub contours-exact-room : JustRoom (contoursPlan values threshold dx dy) lines links points directory → ContoursBuilt values threshold dx dy lines links points directory answer lines′ links′ points′ directory′
           → Filled (contoursPlan values threshold dx dy) answer lines′ links′ points′ directory′
       contours-exact-room just k = fills fits (packed-points-fill-their-room A out) contour-records-fill-their-room just (contours-constructed k)
+
+  -- contour_lines: one result, each refusal exactly, and exact room filled
+  module _ (smooth : Bool) (q : Placing) (lines links : List ℕ) (points : List Float) (directory : List ℕ) where
+    lines-constructed : {answer : Built} {lines′ links′ : List ℕ} {points′ : List Float} {directory′ : List ℕ} → LinesBuilt values threshold dx dy smooth q lines links points directory answer lines′ links′ points′ directory′
+        → Constructed (linesPlan values threshold dx dy smooth q) lines links points directory answer lines′ links′ points′ directory′
+    lines-constructed k = drawn (linePoints smooth values threshold dx dy q (ringsOf A dx dy)) (bareRecords 0 0 (ringsOf A dx dy)) lines links points directory (k .answers) (k .lines-are) (k .links-are) (k .points-are) (k .directory-is)
+
+    pub one-lines : {p r : Built} {pl pk rl rk : List ℕ} {pp rp : List Float} {pd rd : List ℕ} → LinesBuilt values threshold dx dy smooth q lines links points directory p pl pk pp pd → LinesBuilt values threshold dx dy smooth q lines links points directory r rl rk rp rd
+        → (p ≡ r) × (pl ≡ rl) × (pk ≡ rk) × (pp ≡ rp) × (pd ≡ rd)
+    one-lines a b = one-construction (lines-constructed a) (lines-constructed b)
+
+    pub lines-exactly : {answer : Built} {lines′ links′ : List ℕ} {points′ : List Float} {directory′ : List ℕ} → LinesBuilt values threshold dx dy smooth q lines links points directory answer lines′ links′ points′ directory′
+        → Exact (linesPlan values threshold dx dy smooth q) lines links points directory answer
+    lines-exactly k = constructed-exact (grid-early (length values) dx dy 4 (omega arith)) (lines-constructed k)
+
+    pub lines-exact-room : gridFit (length values) dx dy ≡ fit-is.Fits → {answer : Built} {lines′ links′ : List ℕ} {points′ : List Float} {directory′ : List ℕ} → JustRoom (linesPlan values threshold dx dy smooth q) lines links points directory
+        → LinesBuilt values threshold dx dy smooth q lines links points directory answer lines′ links′ points′ directory′ → Filled (linesPlan values threshold dx dy smooth q) answer lines′ links′ points′ directory′
+    lines-exact-room fits just k = fills fits (line-points-fill-their-room A out smooth values threshold q) (records-fill-their-room A out) just (lines-constructed k)
 
   -- ---- 4. the peak in the reports
 

@@ -1,17 +1,20 @@
-// The public face: the two reports, the rings of a grid, contours and isobands, the reports of a band, the area of a ring, and a ring against a ring. None asks
-// anything of the caller.
+// The public face: the two reports, the rings of a grid, its lines, contours and isobands, the reports of a band, the area of a ring, and a ring against a ring.
+// None asks anything of the caller.
 use area::AreaAnswer;
 use area::Containment;
 use cells::Level;
 use isoringbuilder::Built;
 use isoringbuilder::SecondReport;
 use scan::FirstReport;
+use smoothing::Placement;
 ghost use mathlib.Core.Path.{_≡_};
 ghost use Rattle.area.specs.Answers.{areaAnswer, containsAnswer};
 ghost use Rattle.bands.specs.Bands.{bandFirstReport, BandReported, BandBuilt};
 ghost use Rattle.contourbuilder.specs.Contours.{ContoursBuilt};
 ghost use Rattle.isoringbuilder.specs.Answers.{SecondReported, RingsBuilt};
+ghost use Rattle.linebuilder.specs.Lines.{LinesBuilt};
 ghost use Rattle.scan.specs.Report.{firstReport};
+ghost use Rattle.smoothing.specs.Values.{placingOf};
 
 // The segments that a grid draws at a level and the peak of its open lines, or the lowest refusal that applies, alone.
 pub fn first_report(values: &[f64], level: Level, dx: usize, dy: usize) -> FirstReport
@@ -50,6 +53,38 @@ pub fn contour_rings(
         (now (lines .exit)) (now (links .exit)) (now (points .exit)) (now (directory .exit)) ⌝ }
 {
     isoringbuilder::contour_rings(values, level, dx, dy, lines, links, points, directory)
+}
+
+// Every ring of a grid at one threshold as a line, as contour_rings gives them, with points that are smoothed where that is asked, then placed: points packed by
+// ring number, and a directory record a ring. On success, and where points or directory are short, the needed words of both work tables are zero; any refusal
+// spares the outputs.
+pub fn contour_lines(
+    values: &[f64],
+    level: Level,
+    dx: usize,
+    dy: usize,
+    smooth: bool,
+    placement: Placement,
+    lines: &mut [u32],
+    links: &mut [u32],
+    points: &mut [f64],
+    directory: &mut [u32],
+) -> Built
+    ensures { λ r. ⌜ LinesBuilt (now (values .entry)) (level .threshold) dx dy smooth (placingOf placement) (now (lines .entry)) (now (links .entry)) (now (points .entry)) (now (directory .entry)) r
+        (now (lines .exit)) (now (links .exit)) (now (points .exit)) (now (directory .exit)) ⌝ }
+{
+    linebuilder::contour_lines(
+        values,
+        level,
+        dx,
+        dy,
+        smooth,
+        placement,
+        lines,
+        links,
+        points,
+        directory,
+    )
 }
 
 // Every ring of a grid at one threshold, as contour_rings gives them, with classes and owners: points packed by ring number, and a directory record a ring, with

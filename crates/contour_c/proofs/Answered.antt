@@ -1,11 +1,13 @@
 -- From what the library answers to what an entry for C returns and leaves: a law for each way that an answer can be made; and that any two results
 -- of an entry coincide. Assumes nothing.
 use mathlib.Core.Path.{_≡_, sym, _∙_, ap}
+use mathlib.Core.Bool.{Bool}
 use mathlib.Core.List.{List}
 use Prim.Native.Nat.{ℕ}
 use lib.Ieee.{Float}
 use Rattle.error.specs.Number.{refusalNumber}
 use Rattle.error.specs.declared.Refusal.{Refusal}
+use Rattle.scope.specs.Smoothing.{Placing}
 use Rattle.scan.specs.declared.FirstReport.{FirstReport}
 use Rattle.scan.specs.declared.FirstReport.the-variants as first-is
 use Rattle.isoringbuilder.specs.Answers.{SecondReported, RingsBuilt}
@@ -15,7 +17,8 @@ use Rattle.isoringbuilder.specs.declared.Built.{Built}
 use Rattle.isoringbuilder.specs.declared.Built.the-variants as built-is
 use Rattle.bands.specs.Bands.{BandReported, BandBuilt}
 use Rattle.contourbuilder.specs.Contours.{ContoursBuilt}
-use Rattle.contour.proofs.Theorems.{one-answer, one-second-report, one-build, one-contours}
+use Rattle.linebuilder.specs.Lines.{LinesBuilt}
+use Rattle.contour.proofs.Theorems.{one-answer, one-second-report, one-build, one-contours, one-lines}
 use Rattle.contour.proofs.Bands.{one-band-report, one-isobands}
 use Rattle.contour_c.specs.Rings.{firstStatus, firstSegments, firstPeak, secondStatus, secondSegments, secondRings, secondPeak, secondPoints, builtStatus, builtRings, SecondEntry, RingsEntry}
 
@@ -55,7 +58,7 @@ module _ {Reported : SecondReport → List ℕ → List ℕ → Type 0} {lines�
     points-are = ap (secondPoints points) (sym e);
   }
 
-module _ {BuiltAs : Built → List ℕ → List ℕ → List ℕ → List ℕ → Type 0} {lines′ links′ points′ directory′ : List ℕ} where
+module _ {Word : Type 0} {BuiltAs : Built → List ℕ → List ℕ → List Word → List ℕ → Type 0} {lines′ links′ : List ℕ} {points′ : List Word} {directory′ : List ℕ} where
   pub rings-given : (r rings : ℕ) (answer : Built) → answer ≡ built-is.Rings r → BuiltAs answer lines′ links′ points′ directory′ → RingsEntry BuiltAs rings 0 lines′ links′ points′ directory′ r
   unfolding builtStatus builtRings
   rings-given r rings answer e k =
@@ -88,13 +91,13 @@ module _ {Reported : SecondReport → List ℕ → List ℕ → Type 0} where
     a .points-are ∙ ap (secondPoints n) (same .0) ∙ sym (b .points-are),
   )
 
-module _ {BuiltAs : Built → List ℕ → List ℕ → List ℕ → List ℕ → Type 0} where
-  one-built : {r p q : ℕ} {pl pk pp pd ql qk qp qd : List ℕ} {pr qr : ℕ} (a : RingsEntry BuiltAs r p pl pk pp pd pr) (b : RingsEntry BuiltAs r q ql qk qp qd qr)
+module _ {Word : Type 0} {BuiltAs : Built → List ℕ → List ℕ → List Word → List ℕ → Type 0} where
+  one-built : {r p q : ℕ} {pl pk ql qk : List ℕ} {pp qp : List Word} {pd qd : List ℕ} {pr qr : ℕ} (a : RingsEntry BuiltAs r p pl pk pp pd pr) (b : RingsEntry BuiltAs r q ql qk qp qd qr)
       → (a .answer ≡ b .answer) × (pl ≡ ql) × (pk ≡ qk) × (pp ≡ qp) × (pd ≡ qd) → (p ≡ q) × (pl ≡ ql) × (pk ≡ qk) × (pp ≡ qp) × (pd ≡ qd) × (pr ≡ qr)
   one-built {r} a b same =
       (a .status-is ∙ ap builtStatus (same .0) ∙ sym (b .status-is), same .1, same .2, same .3, same .4, a .rings-are ∙ ap (builtRings r) (same .0) ∙ sym (b .rings-are))
 
--- two results that meet the contract of contour_second_report, contour_rings or contour_contours on the same entry are equal
+-- two results that meet the contract of contour_second_report, contour_rings, contour_contours or contour_lines on the same entry are equal
 module _ (values : List Float) (threshold : Float) (dx dy : ℕ) (lines links : List ℕ) where
   pub one-second-entry : {s r h n : ℕ} {p q : ℕ} {pl pk ql qk : List ℕ} {ps pr ph pn qs qr qh qn : ℕ} → SecondEntry (SecondReported values threshold dx dy lines links) s r h n p pl pk ps pr ph pn
       → SecondEntry (SecondReported values threshold dx dy lines links) s r h n q ql qk qs qr qh qn → (p ≡ q) × (pl ≡ ql) × (pk ≡ qk) × (ps ≡ qs) × (pr ≡ qr) × (ph ≡ qh) × (pn ≡ qn)
@@ -108,6 +111,11 @@ module _ (values : List Float) (threshold : Float) (dx dy : ℕ) (lines links : 
     pub one-contours-entry : {r p q : ℕ} {pl pk pp pd ql qk qp qd : List ℕ} {pr qr : ℕ} → RingsEntry (ContoursBuilt values threshold dx dy lines links points directory) r p pl pk pp pd pr
         → RingsEntry (ContoursBuilt values threshold dx dy lines links points directory) r q ql qk qp qd qr → (p ≡ q) × (pl ≡ ql) × (pk ≡ qk) × (pp ≡ qp) × (pd ≡ qd) × (pr ≡ qr)
     one-contours-entry a b = one-built a b (one-contours values threshold dx dy lines links points directory (a .built) (b .built))
+
+  pub one-lines-entry : (smooth : Bool) (placing : Placing) (points : List Float) (directory : List ℕ) {r p q : ℕ} {pl pk ql qk : List ℕ} {pp qp : List Float} {pd qd : List ℕ} {pr qr : ℕ}
+      → RingsEntry (LinesBuilt values threshold dx dy smooth placing lines links points directory) r p pl pk pp pd pr
+      → RingsEntry (LinesBuilt values threshold dx dy smooth placing lines links points directory) r q ql qk qp qd qr → (p ≡ q) × (pl ≡ ql) × (pk ≡ qk) × (pp ≡ qp) × (pd ≡ qd) × (pr ≡ qr)
+  one-lines-entry smooth placing points directory a b = one-built a b (one-lines values threshold dx dy smooth placing lines links points directory (a .built) (b .built))
 
 -- and contour_band_second_report or contour_isobands
 module _ (values thresholds : List Float) (k dx dy : ℕ) (lines links : List ℕ) where

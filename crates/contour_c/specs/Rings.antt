@@ -1,7 +1,9 @@
 -- What the reports and the builds return to C, and what they leave in their outputs, by what the library answers. Assumes nothing.
 use mathlib.Core.Path.{_≡_}
+use mathlib.Core.Bool.{Bool, not}
 use mathlib.Core.List.{List}
 use Prim.Native.Nat.{ℕ}
+use lib.Dec.{eqb}
 use Rattle.error.specs.Number.{refusalNumber}
 use Rattle.scan.specs.declared.FirstReport.{FirstReport}
 use Rattle.scan.specs.declared.FirstReport.the-variants as first-is
@@ -53,6 +55,10 @@ unfoldable pub builtRings : ℕ → Built → ℕ
 builtRings old (built-is.Rings r) = r
 builtRings old (built-is.Refused why) = old
 
+-- whether smoothing is asked: 0 is no, and any other number yes
+unfoldable pub asked : ℕ → Bool
+asked smooth = not (eqb smooth 0)
+
 -- a second report whose answer and tables are such as the library ensures: the status and the outputs are that answer's
 pub record SecondEntry (Reported : SecondReport → List ℕ → List ℕ → Type 0) (segments rings peak points : ℕ) (status : ℕ) (lines′ links′ : List ℕ) (segments′ rings′ peak′ points′ : ℕ) : Type 0 where
   pub answer : SecondReport
@@ -63,8 +69,8 @@ pub record SecondEntry (Reported : SecondReport → List ℕ → List ℕ → Ty
   pub peak-is : peak′ ≡ secondPeak peak answer
   pub points-are : points′ ≡ secondPoints points answer
 
--- a build whose answer and tables are such as the library ensures: the status and the output are that answer's
-pub record RingsEntry (BuiltAs : Built → List ℕ → List ℕ → List ℕ → List ℕ → Type 0) (rings : ℕ) (status : ℕ) (lines′ links′ points′ directory′ : List ℕ) (rings′ : ℕ) : Type 0 where
+-- a build whose answer and tables are such as the library ensures, with points of any words: the status and the output are that answer's
+pub record RingsEntry {Word : Type 0} (BuiltAs : Built → List ℕ → List ℕ → List Word → List ℕ → Type 0) (rings : ℕ) (status : ℕ) (lines′ links′ : List ℕ) (points′ : List Word) (directory′ : List ℕ) (rings′ : ℕ) : Type 0 where
   pub answer : Built
   pub built : BuiltAs answer lines′ links′ points′ directory′
   pub status-is : status ≡ builtStatus answer

@@ -6,6 +6,7 @@ use cells::Level;
 use isoringbuilder::Built;
 use isoringbuilder::SecondReport;
 use scan::FirstReport;
+use smoothing::Placement;
 ghost use mathlib.Core.Path.{_≡_};
 ghost use Rattle.scope.specs.Area.{areaRefused};
 ghost use Rattle.scope.specs.Containment.{containsRefused};
@@ -13,8 +14,9 @@ ghost use Rattle.scan.specs.Report.{firstReport};
 ghost use Rattle.isoringbuilder.specs.Answers.{SecondReported, RingsBuilt};
 ghost use Rattle.bands.specs.Bands.{bandFirstReport, BandReported, BandBuilt};
 ghost use Rattle.contourbuilder.specs.Contours.{ContoursBuilt};
+ghost use Rattle.linebuilder.specs.Lines.{LinesBuilt};
 ghost use Rattle.contour_c.specs.Entries.{statusOf, areaOutput, containsOutput};
-ghost use Rattle.contour_c.specs.Rings.{firstStatus, firstSegments, firstPeak, SecondEntry, RingsEntry};
+ghost use Rattle.contour_c.specs.Rings.{firstStatus, firstSegments, firstPeak, SecondEntry, RingsEntry, asked};
 
 // The area of a ring of words X, Y, X, Y, and so on: the crate's undivided one times 4, above 0 for a polygon.
 #[no_mangle]
@@ -137,6 +139,54 @@ pub extern "C" fn contour_rings(
         Level { threshold },
         dx,
         dy,
+        lines,
+        links,
+        points,
+        directory,
+    ) {
+        Built::Rings(count) => {
+            *rings = count;
+            0
+        }
+        Built::Refused(refusal) => error::number(refusal),
+    }
+}
+
+// Every ring of a grid at a threshold as a line, as contour_rings gives them, with points that are smoothed unless `smooth` is 0, then placed by the origin and the
+// step.
+#[no_mangle]
+pub extern "C" fn contour_lines(
+    values: &[f64],
+    threshold: f64,
+    dx: usize,
+    dy: usize,
+    smooth: u32,
+    x_origin: f64,
+    y_origin: f64,
+    x_step: f64,
+    y_step: f64,
+    lines: &mut [u32],
+    links: &mut [u32],
+    points: &mut [f64],
+    directory: &mut [u32],
+    rings: &mut u32,
+) -> u32
+    ensures { λ r. ⌜ RingsEntry (LinesBuilt (now (values .entry)) threshold dx dy (asked smooth) (record { xOrigin = «x_origin»; yOrigin = «y_origin»; xStep = «x_step»; yStep = «y_step» })
+        (now (lines .entry)) (now (links .entry)) (now (points .entry)) (now (directory .entry))) (now (rings .entry)) r
+        (now (lines .exit)) (now (links .exit)) (now (points .exit)) (now (directory .exit)) (now (rings .exit)) ⌝ }
+{
+    match linebuilder::contour_lines(
+        values,
+        Level { threshold },
+        dx,
+        dy,
+        smooth != 0,
+        Placement {
+            x_origin,
+            y_origin,
+            x_step,
+            y_step,
+        },
         lines,
         links,
         points,

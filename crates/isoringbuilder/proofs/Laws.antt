@@ -1,15 +1,15 @@
--- From the pass and the packing to the contracts of the second report and contour_rings; and that each contract leaves one result.
--- Assumes nothing.
-use mathlib.Core.Path.{_≡_, refl, sym, _∙_, ap, ap₂, subst}
+-- From the pass and the packing to the contracts of the second report and contour_rings, and to that of any build whose points are other words of the same
+-- rings. Assumes nothing.
+use mathlib.Core.Path.{_≡_, refl, sym, _∙_, ap, subst}
 use mathlib.Core.Bool.{Bool, true, false, cond}
-use mathlib.Core.List.{List, _++_}
-use Prim.Native.Nat.{ℕ, suc, _+_, _*_, _^_, _≤_, _<_}
+use mathlib.Core.List.{List}
+use Prim.Native.Nat.{ℕ, _+_, _≤_}
 use native.Mathlib.Omega.{arith}
 use lib.Dec.{ltb}
 use lib.Ieee.{Float}
 use lib.ListN.{length}
 use lib.Seq.{sets}
-use borrow.Author.Tests.{lt-ltb, le-ltb, ltb-false}
+use borrow.Author.Tests.{ltb-false}
 use Rattle.error.specs.declared.Refusal.{Refusal}
 use Rattle.error.specs.declared.Refusal.the-variants.{OpenShort, LinksShort}
 use Rattle.scope.specs.Terrain.{Sheet, atLeast, terrain}
@@ -18,7 +18,8 @@ use Rattle.scope.specs.Room.{openWords, linkWords, pointCount, pointWords, dire
 use Rattle.scope.specs.Tables.{zeroed, written, packedPoints, bareRecords}
 use Rattle.laws.proofs.Edges.{Outside}
 use Rattle.machine.specs.Machine.{Tables}
-use Rattle.machine.specs.Walk.{walkPoints, walkRecords}
+use Rattle.machine.specs.Walk as walk
+use Rattle.machine.specs.Walk.{walkWords, walkPoints, walkRecords}
 use Rattle.machine.proofs.Built.{points-found, records-found, lines-kept, links-kept, packed-points-fill-their-room, records-fill-their-room}
 use Rattle.packing.specs.Cleared.{cleared}
 use Rattle.packing.proofs.Laws.{stores-from-the-start, cleared-is-zeroed}
@@ -27,16 +28,16 @@ use Rattle.scan.specs.declared.GridFit.{GridFit}
 use Rattle.scan.specs.declared.GridFit.the-variants as fit-is
 use Rattle.scan.proofs.Laws.{a-grid-that-fits-is-sized}
 use Rattle.isoringbuilder.specs.Verdict.{Verdict, refused, passes, afterGrid, workVerdict, roomVerdict, outputVerdict}
-use Rattle.isoringbuilder.specs.Answers.{workAfter, outputAfter, reported, built, SecondReported, RingsBuilt}
+use Rattle.isoringbuilder.specs.Answers.{workAfter, outputAfter, reported, built, above, onEntry, onOutputs, SecondReported, RingsBuilt}
 use Rattle.isoringbuilder.specs.Pass.{stitchedTables, passed, passTable, packed, Passed, Packed}
 use Rattle.isoringbuilder.specs.declared.Pass.{Pass}
 use Rattle.isoringbuilder.specs.declared.Pass.the-variants as pass-is
 use Rattle.isoringbuilder.specs.declared.Drawing.{Drawing}
-use Rattle.isoringbuilder.specs.declared.SecondReport.{SecondReport}
 use Rattle.isoringbuilder.specs.declared.SecondReport.the-variants as report-is
 use Rattle.isoringbuilder.specs.declared.Built.{Built}
 use Rattle.isoringbuilder.specs.declared.Built.the-variants as built-is
 use Rattle.isoringbuilder.proofs.Limits.{outside, segments-fit, points-fit, peak-fits, columns-fit, rows-fit}
+use Rattle.isoringbuilder.proofs.Packing.{PackedAs, of-packed}
 
 -- a verdict that passes: the grid fits, and so do both tables
 record Fitting (fit : GridFit) (m need n need′ : ℕ) : Type 0 where
@@ -110,18 +111,34 @@ module _ (values : List Float) (threshold : Float) (dx dy : ℕ) (lines links : 
           same q = cc
       by passes e a b c = absurd (let z : _≡_ {A = ℕ} 0 1 = cc in omega arith)
 
-  pub rings-refused : (answer : Pass) (why : Refusal) → answer ≡ pass-is.Refused why → (lines′ links′ : List ℕ) → Passed values threshold dx dy lines links answer lines′ links′ → (points directory : List ℕ)
-      → RingsBuilt values threshold dx dy lines links points directory (built-is.Refused why) lines′ links′ points directory
+  -- what a build answers and leaves, where these are the words of its points
+  pub record BuiltAs {Word : Type 0} (words points : List Word) (directory : List ℕ) (answer : Built) (lines′ links′ : List ℕ) (points′ : List Word) (directory′ : List ℕ) : Type 0 where
+    pub answers : answer ≡ built (onEntry values threshold dx dy lines links) (onOutputs values threshold dx dy points directory) (above values threshold dx dy) dx dy
+    pub lines-are : lines′ ≡ workAfter (onEntry values threshold dx dy lines links) (openWords dx (peak (above values threshold dx dy) dx dy)) lines
+    pub links-are : links′ ≡ workAfter (onEntry values threshold dx dy lines links) (linkWords (segmentCount (above values threshold dx dy) dx dy)) links
+    pub points-are : points′ ≡ outputAfter (onEntry values threshold dx dy lines links) (onOutputs values threshold dx dy points directory) words points
+    pub directory-is : directory′ ≡ outputAfter (onEntry values threshold dx dy lines links) (onOutputs values threshold dx dy points directory) (bareRecords 0 0 (ringsOf (above values threshold dx dy) dx dy)) directory
+
+  rings-built : {points directory : List ℕ} {answer : Built} {lines′ links′ points′ directory′ : List ℕ} → BuiltAs (packedPoints (ringsOf A dx dy)) points directory answer lines′ links′ points′ directory′
+      → RingsBuilt values threshold dx dy lines links points directory answer lines′ links′ points′ directory′
+  rings-built b = record { answers = b .answers; lines-are = b .lines-are; links-are = b .links-are; points-are = b .points-are; directory-is = b .directory-is }
+
+  pub build-refused : (answer : Pass) (why : Refusal) → answer ≡ pass-is.Refused why → (lines′ links′ : List ℕ) → Passed values threshold dx dy lines links answer lines′ links′ → {Word : Type 0} (words points : List Word) (directory : List ℕ)
+      → BuiltAs words points directory (built-is.Refused why) lines′ links′ points directory
   unfolding built workAfter outputAfter
-  rings-refused answer why is lines′ links′ k points directory =
+  build-refused answer why is lines′ links′ k words points directory =
       let facts = refused-facts answer why is lines′ links′ k in
       record {
         answers = ap (λ (v : Verdict). built v (outputVerdict A dx dy (length points) (length directory)) A dx dy) (sym (facts .0));
         lines-are = facts .1 ∙ ap (λ (v : Verdict). workAfter v (openWords dx (peak A dx dy)) lines) (sym (facts .0));
         links-are = facts .2 ∙ ap (λ (v : Verdict). workAfter v (linkWords (segmentCount A dx dy)) links) (sym (facts .0));
-        points-are = ap (λ (v : Verdict). outputAfter v (outputVerdict A dx dy (length points) (length directory)) (packedPoints (ringsOf A dx dy)) points) (sym (facts .0));
+        points-are = ap (λ (v : Verdict). outputAfter v (outputVerdict A dx dy (length points) (length directory)) words points) (sym (facts .0));
         directory-is = ap (λ (v : Verdict). outputAfter v (outputVerdict A dx dy (length points) (length directory)) (bareRecords 0 0 (ringsOf A dx dy)) directory) (sym (facts .0));
       }
+
+  pub rings-refused : (answer : Pass) (why : Refusal) → answer ≡ pass-is.Refused why → (lines′ links′ : List ℕ) → Passed values threshold dx dy lines links answer lines′ links′ → (points directory : List ℕ)
+      → RingsBuilt values threshold dx dy lines links points directory (built-is.Refused why) lines′ links′ points directory
+  rings-refused answer why is lines′ links′ k points directory = rings-built (build-refused answer why is lines′ links′ k (packedPoints (ringsOf A dx dy)) points directory)
 
   pub report-refused : (answer : Pass) (why : Refusal) → answer ≡ pass-is.Refused why → (lines′ links′ : List ℕ) → Passed values threshold dx dy lines links answer lines′ links′ → SecondReported values threshold dx dy lines links (report-is.Refused why) lines′ links′
   unfolding reported workAfter
@@ -178,28 +195,31 @@ module _ (values : List Float) (threshold : Float) (dx dy : ℕ) (lines links : 
         records-found A out-there lines links (done .lines-fit) (done .links-fit) (segments-fit values threshold dx dy (done .sized)) (peak-fits values threshold dx dy (done .sized))
         (points-fit values threshold dx dy (done .sized))
 
-    -- what packing answers and leaves, with the pass's numbers in place of the drawing's
-    with-numbers : (points directory : List ℕ) (answer : Built) (points′ directory′ : List ℕ) → Packed drawing dx links′ points directory answer points′ directory′
-        → Packed (record { segments = segmentCount A dx dy; peak = peak A dx dy; rings = ringCount A dx dy; head = stitched .progress .head }) dx (stitched .links) points directory answer points′ directory′
-    with-numbers points directory answer points′ directory′ k =
-        subst (λ (d : Drawing). Packed d dx (stitched .links) points directory answer points′ directory′) (done .is-drawing)
-        (subst (λ (l : List ℕ). Packed drawing dx l points directory answer points′ directory′) (done .links-are) k)
+    -- packing by any words of a link's point, which the walk along the links lays out as these words that fill their room
+    module _ {Word : Type 0} (of-link : List ℕ → ℕ → List Word) (words : List Word)
+        (walked : walkWords (of-link (stitched .links)) (stitched .links) (stitched .progress .head) (stitched .progress .head) (segmentCount A dx dy) ≡ words)
+        (full : length words ≡ pointWords (segmentCount A dx dy) (ringCount A dx dy)) (points : List Word) (directory : List ℕ) where
+      -- what packing answers and leaves, with the pass's numbers in place of the drawing's
+      with-numbers : (answer : Built) (points′ : List Word) (directory′ : List ℕ) → PackedAs of-link drawing links′ points directory answer points′ directory′
+          → PackedAs of-link (record { segments = segmentCount A dx dy; peak = peak A dx dy; rings = ringCount A dx dy; head = stitched .progress .head }) (stitched .links) points directory answer points′ directory′
+      with-numbers answer points′ directory′ k =
+          subst (λ (d : Drawing). PackedAs of-link d (stitched .links) points directory answer points′ directory′) (done .is-drawing)
+          (subst (λ (l : List ℕ). PackedAs of-link drawing l points directory answer points′ directory′) (done .links-are) k)
 
-    module _ (points directory : List ℕ) where
       answered : (v : Verdict) → packed v (ringCount A dx dy) ≡ built passes v A dx dy
       unfolding packed built
       answered (refused why) = refl
       answered passes = refl
 
       points-out : (a b : Bool) → ltb (length points) (pointWords (segmentCount A dx dy) (ringCount A dx dy)) ≡ a → ltb (length directory) (directoryWords (ringCount A dx dy)) ≡ b
-          → passTable (roomVerdict (segmentCount A dx dy) (ringCount A dx dy) (length points) (length directory)) points (sets points 0 (walkPoints dx (stitched .links) (stitched .progress .head) (stitched .progress .head) (segmentCount A dx dy)))
-          ≡ outputAfter passes (outputVerdict A dx dy (length points) (length directory)) (packedPoints (ringsOf A dx dy)) points
+          → passTable (roomVerdict (segmentCount A dx dy) (ringCount A dx dy) (length points) (length directory)) points (sets points 0 (walkWords (of-link (stitched .links)) (stitched .links) (stitched .progress .head) (stitched .progress .head) (segmentCount A dx dy)))
+          ≡ outputAfter passes (outputVerdict A dx dy (length points) (length directory)) words points
       unfolding outputVerdict roomVerdict passTable outputAfter written
       points-out true b ea eb = rw ea
       points-out false true ea eb = rw (ea, eb)
       points-out false false ea eb =
-          rw (ea, eb, points-walked)
-          (stores-from-the-start points (packedPoints (ringsOf A dx dy)) (omega (arith, packed-points-fill-their-room A out-there, ltb-false (length points) (pointWords (segmentCount A dx dy) (ringCount A dx dy)) ea)))
+          rw (ea, eb, walked)
+          (stores-from-the-start points words (omega (arith, full, ltb-false (length points) (pointWords (segmentCount A dx dy) (ringCount A dx dy)) ea)))
 
       directory-out : (a b : Bool) → ltb (length points) (pointWords (segmentCount A dx dy) (ringCount A dx dy)) ≡ a → ltb (length directory) (directoryWords (ringCount A dx dy)) ≡ b
           → passTable (roomVerdict (segmentCount A dx dy) (ringCount A dx dy) (length points) (length directory)) directory (sets directory 0 (walkRecords (stitched .links) 0 0 (stitched .progress .head) (segmentCount A dx dy)))
@@ -211,12 +231,11 @@ module _ (values : List Float) (threshold : Float) (dx dy : ℕ) (lines links : 
           rw (ea, eb, records-walked)
           (stores-from-the-start directory (bareRecords 0 0 (ringsOf A dx dy)) (omega (arith, records-fill-their-room A out-there, ltb-false (length directory) (directoryWords (ringCount A dx dy)) eb)))
 
-      pub built-done : (answer : Built) (points′ directory′ : List ℕ) → Packed drawing dx links′ points directory answer points′ directory′
-          → RingsBuilt values threshold dx dy lines links points directory answer
-          (cleared lines′ (openWords dx (drawing .peak))) (cleared links′ (linkWords (drawing .segments))) points′ directory′
+      pub build-done : (answer : Built) (points′ : List Word) (directory′ : List ℕ) → PackedAs of-link drawing links′ points directory answer points′ directory′
+          → BuiltAs words points directory answer (cleared lines′ (openWords dx (drawing .peak))) (cleared links′ (linkWords (drawing .segments))) points′ directory′
       unfolding workAfter outputVerdict
-      built-done answer points′ directory′ k =
-          let n = with-numbers points directory answer points′ directory′ k in
+      build-done answer points′ directory′ k =
+          let n = with-numbers answer points′ directory′ k in
           record {
             answers = n .answers ∙ answered (roomVerdict (segmentCount A dx dy) (ringCount A dx dy) (length points) (length directory)) ∙ ap (λ (v : Verdict). built v (outputVerdict A dx dy (length points) (length directory)) A dx dy) (sym (done .is-passes));
             lines-are =
@@ -227,8 +246,14 @@ module _ (values : List Float) (threshold : Float) (dx dy : ℕ) (lines links : 
                 ∙ ap (λ (v : Verdict). workAfter v (linkWords (segmentCount A dx dy)) links) (sym (done .is-passes));
             points-are =
                 n .points-are ∙ points-out (ltb (length points) (pointWords (segmentCount A dx dy) (ringCount A dx dy))) (ltb (length directory) (directoryWords (ringCount A dx dy))) refl refl
-                ∙ ap (λ (v : Verdict). outputAfter v (outputVerdict A dx dy (length points) (length directory)) (packedPoints (ringsOf A dx dy)) points) (sym (done .is-passes));
+                ∙ ap (λ (v : Verdict). outputAfter v (outputVerdict A dx dy (length points) (length directory)) words points) (sym (done .is-passes));
             directory-is =
                 n .directory-is ∙ directory-out (ltb (length points) (pointWords (segmentCount A dx dy) (ringCount A dx dy))) (ltb (length directory) (directoryWords (ringCount A dx dy))) refl refl
                 ∙ ap (λ (v : Verdict). outputAfter v (outputVerdict A dx dy (length points) (length directory)) (bareRecords 0 0 (ringsOf A dx dy)) directory) (sym (done .is-passes));
           }
+
+    pub built-done : (points directory : List ℕ) (answer : Built) (points′ directory′ : List ℕ) → Packed drawing dx links′ points directory answer points′ directory′
+        → RingsBuilt values threshold dx dy lines links points directory answer
+        (cleared lines′ (openWords dx (drawing .peak))) (cleared links′ (linkWords (drawing .segments))) points′ directory′
+    built-done points directory answer points′ directory′ k =
+        rings-built (build-done (walk.pointWords dx) (packedPoints (ringsOf A dx dy)) points-walked (packed-points-fill-their-room A out-there) points directory answer points′ directory′ (of-packed k))

@@ -21,7 +21,7 @@ workAfter (refused why) need table = table
 workAfter passes need table = zeroed need table
 
 -- an output table at exit, by the verdict on the work tables and the one on the outputs
-unfoldable pub outputAfter : Verdict → Verdict → List ℕ → List ℕ → List ℕ
+unfoldable pub outputAfter : {Word : Type 0} → Verdict → Verdict → List Word → List Word → List Word
 outputAfter (refused why) verdict words table = table
 outputAfter passes (refused why) words table = table
 outputAfter passes passes words table = written words table
@@ -44,7 +44,7 @@ above values threshold dx dy = terrain (atLeast threshold) values dx dy
 abbrev pub onEntry : List Float → Float → ℕ → ℕ → List ℕ → List ℕ → Verdict
 onEntry values threshold dx dy lines links = workVerdict (terrain (atLeast threshold) values dx dy) (length values) dx dy (length lines) (length links)
 
-abbrev pub onOutputs : List Float → Float → ℕ → ℕ → List ℕ → List ℕ → Verdict
+abbrev pub onOutputs : {Word : Type 0} → List Float → Float → ℕ → ℕ → List Word → List ℕ → Verdict
 onOutputs values threshold dx dy points directory = outputVerdict (terrain (atLeast threshold) values dx dy) dx dy (length points) (length directory)
 
 -- what the second report answers and leaves, on every input

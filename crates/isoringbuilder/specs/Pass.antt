@@ -27,7 +27,7 @@ passed (refused why) A dx dy t = pass-is.Refused why
 passed passes A dx dy t = pass-is.Done (record { segments = segmentCount A dx dy; peak = peak A dx dy; rings = ringCount A dx dy; head = t .progress .head })
 
 -- a table as it was, or as the pass left it
-unfoldable pub passTable : Verdict → List ℕ → List ℕ → List ℕ
+unfoldable pub passTable : {Word : Type 0} → Verdict → List Word → List Word → List Word
 passTable (refused why) old new = old
 passTable passes old new = new
 

@@ -234,7 +234,8 @@ module _ (A : Sheet) {dx dy : ℕ} (out : Outside A dx dy) where
   rings-are-no-more r c =
       omega (arith, points-of (ringsAfter A dx r c) (closed-after r c), two-points (ringsAfter A dx r c) (closed-after r c), rings-sum (λ a b. 1) r c, one-each (segmentsAfter A dx r c))
 
-  -- ---- 4. every ring is closed, has five points or more, neighbours differ, it is inside the grid, and no point stands twice but the first
+  -- ---- 4. every ring is closed, has five points or more, neighbours differ, it is inside the grid, each point lies between two neighbouring samples,
+  -- and no point stands twice but the first
 
   pub rings-are-rings : (r c : ℕ) → r ≤ dy → c ≤ suc dx → Each (RingLaw dx dy) (ringsAfter A dx r c)
   rings-are-rings r c hr hc =

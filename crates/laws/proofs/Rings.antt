@@ -1,6 +1,6 @@
--- Rings: closed, of five points or more, with neighbours that differ, inside the grid, and with no point twice but the first. Every pair of a ring is a
--- segment that was drawn, by conservation; two segments that follow one another lie in two cells that share an edge, and a point is the sum of
--- its two cells, so fewer than four segments do not close. Assumes nothing.
+-- Rings: closed, of five points or more, with neighbours that differ, inside the grid, each point between two neighbouring samples, and with no point
+-- twice but the first. Every pair of a ring is a segment that was drawn, by conservation; two segments that follow one another lie in two cells that
+-- share an edge, and a point is the sum of its two cells, so fewer than four segments do not close. Assumes nothing.
 use mathlib.Core.Path.{_≡_, refl, sym, _∙_, ap, subst}
 use mathlib.Core.Bool.{Bool, true, false, not, cond, _&&_, false≢true, true≢false}
 use mathlib.Core.List.{List, [], _∷_, _++_, map}
@@ -32,6 +32,10 @@ Chain P (p ∷ q ∷ l) = P p q × Chain P (q ∷ l)
 abbrev pub Within : ℕ → ℕ → Point → Type 0
 Within dx dy p = (p .x ≤ 2 * dx) × (p .y ≤ 2 * dy)
 
+-- a point lies between two neighbouring samples: one of its doubled coordinates is even and the other odd
+abbrev pub OddSum : Point → Type 0
+OddSum p = (p .x + p .y) % 2 ≡ 1
+
 -- how often a point stands in a line, and a line without its first point
 unfoldable pub occurrences : Point → Line → ℕ
 occurrences p l = total (same p) l
@@ -47,7 +51,7 @@ record Good (A : Sheet) (dx dy : ℕ) (p q : Point) : Type 0 where
   apart : samePoint p q ≡ false
   from-within : Within dx dy p
   to-within : Within dx dy q
-  odd-sum : (p .x + p .y) % 2 ≡ 1
+  odd-sum : OddSum p
 
 withinTest : ℕ → ℕ → Point → Bool
 withinTest dx dy p = leb (p .x) (2 * dx) && leb (p .y) (2 * dy)
@@ -240,6 +244,11 @@ all-within : (A : Sheet) (dx dy : ℕ) (p q : Point) (l : Line) → Chain (Good 
 all-within A dx dy p q [] chain = (chain .0 .from-within, (chain .0 .to-within, tt))
 all-within A dx dy p q (s ∷ l) chain = (chain .0 .from-within, all-within A dx dy q s l (chain .1))
 
+-- of a pair its first point is known to have an odd sum, so the last point of a line is known by itself
+all-odd : (A : Sheet) (dx dy : ℕ) (p : Point) (l : Line) (z : Point) → OddSum z → Chain (Good A dx dy) (p ∷ l ++ (z ∷ [])) → Each OddSum (p ∷ l ++ (z ∷ []))
+all-odd A dx dy p [] z h chain = (chain .0 .odd-sum, (h, tt))
+all-odd A dx dy p (q ∷ l) z h chain = (chain .0 .odd-sum, all-odd A dx dy q l z h (chain .1))
+
 -- the pairs that have a point second are its occurrences behind the first
 second-points : (p : Point) (l : Line) → pairSum (λ a b. same p b) l ≡ occurrences p (behind l)
 unfolding pairSum occurrences total
@@ -253,6 +262,7 @@ pub record RingLaw (dx dy : ℕ) (ring : Line) : Type 0 where
   pub five : 5 ≤ length ring
   pub neighbours-differ : Chain (λ p q. p ≡ q → ⊥) ring
   pub inside : Each (Within dx dy) ring
+  pub odd-sums : Each OddSum ring
   pub no-point-twice : (p : Point) → occurrences p (behind ring) ≤ 1
 
 ring-law : (A : Sheet) (dx dy : ℕ) (ring : Line) → Closed ring → pairSum (fault A dx dy) ring ≡ 0 → ((p : Point) → pairSum (λ a b. same p b) ring ≤ 1) → RingLaw dx dy ring
@@ -261,6 +271,7 @@ ring-law A dx dy ring closed faultless once = record {
   five = subst (λ (l : Line). 5 ≤ length l) (sym (closed .2)) (five-points A dx dy (closed .0) (closed .1) chain);
   neighbours-differ = neighbours-apart A dx dy ring (chain-good A dx dy ring faultless);
   inside = subst (Each (Within dx dy)) (sym (closed .2)) (within (closed .0) (closed .1) chain);
+  odd-sums = subst (Each OddSum) (sym (closed .2)) (odd (closed .0) (closed .1) chain);
   no-point-twice = λ p. omega (arith, once p, second-points p ring);
 }
   where
@@ -270,6 +281,10 @@ ring-law A dx dy ring closed faultless once = record {
     within : (p : Point) (l : Line) → Chain (Good A dx dy) (p ∷ l ++ (p ∷ [])) → Each (Within dx dy) (p ∷ l ++ (p ∷ []))
     within p [] k = all-within A dx dy p p [] k
     within p (q ∷ l) k = all-within A dx dy p q (l ++ (p ∷ [])) k
+
+    odd : (p : Point) (l : Line) → Chain (Good A dx dy) (p ∷ l ++ (p ∷ [])) → Each OddSum (p ∷ l ++ (p ∷ []))
+    odd p [] k = all-odd A dx dy p [] p (k .0 .odd-sum) k
+    odd p (q ∷ l) k = all-odd A dx dy p (q ∷ l) p (k .0 .odd-sum) k
 
 -- what holds of all rings, from what the rings' sums are
 pub ring-laws : (A : Sheet) (dx dy : ℕ) (rings : List Line) → Each Closed rings → total (pairSum (fault A dx dy)) rings ≡ 0

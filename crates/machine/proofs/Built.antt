@@ -1,14 +1,15 @@
 -- What a whole run leaves, lent the reported room or more: document 01's rings, to be read off by one walk, and every word past the need as it was.
 -- Assumes nothing.
 use mathlib.Core.Path.{_≡_, refl, sym, _∙_, ap, ap₂, subst}
-use mathlib.Core.List.{List, [], _∷_, _++_}
-use Prim.Native.Nat.{ℕ, zero, suc, _+_, _*_, _^_, _≤_, _<_}
+use mathlib.Core.List.{List, [], _∷_, _++_, flatMap}
+use Prim.Native.Nat.{ℕ, suc, _+_, _*_, _%_, _^_, _≤_, _<_}
+use native.Mathlib.Nat.{mod-eq-of-lt}
 use native.Mathlib.Decide.{decLt}
 use native.Mathlib.Omega.{arith}
 use lib.ListN.{length, drop, length-append}
 use Rattle.scope.specs.Terrain.{Sheet}
 use Rattle.scope.specs.Limits.{recordStride}
-use Rattle.scope.specs.Cells.{Point}
+use Rattle.scope.specs.Cells.{Point, indexedPoint}
 use Rattle.scope.specs.Stitching.{Line, nothing, stitchAll}
 use Rattle.scope.specs.Drawing.{segmentsAfter, drawingAfter, ringsAfter, ringsOf, segmentsOf, segmentCount, ringCount, peak}
 use Rattle.scope.specs.Room.{openWords, linkWords, pointCount, pointWords, directoryWords}
@@ -18,44 +19,75 @@ use Rattle.laws.proofs.Conservation.{Each}
 use Rattle.laws.proofs.Edges.{Outside}
 use Rattle.laws.proofs.Rings.{RingLaw, Within}
 use Rattle.laws.proofs.Laws.{rings-are-rings, points-are-segments-and-rings}
-use Rattle.machine.specs.Machine.{mark, Tables, runAfter, runOver}
-use Rattle.machine.specs.Walk.{walkPoints, walkRecords}
+use Rattle.machine.specs.Machine.{mark, Tables, runAfter, runOver, linkPoint}
+use Rattle.machine.specs.Walk as walk
+use Rattle.machine.specs.Walk.{walkWords, walkPoints, walkRecords}
 use Rattle.machine.proofs.Chains.{uses}
 use Rattle.machine.proofs.Held.{HeldRings}
 use Rattle.machine.proofs.Steps.{Kept, Carried}
 use Rattle.machine.proofs.Leaves.{all}
-use Rattle.machine.proofs.WholeRun.{RunHolds, run-holds, rings-counted}
-use Rattle.machine.proofs.Walking.{Small, points-walked, records-walked, points-counted}
+use Rattle.machine.proofs.WholeRun.{run-holds, rings-counted}
+use Rattle.machine.proofs.Walking.{words-walked, records-walked, points-counted}
 
 -- ---- the sizes of the packed tables
 
-ring-length : (ring : Line) → length (ringWords ring) ≡ 2 * length ring
-unfolding ringWords
-ring-length [] = refl
-ring-length (p ∷ ring) = omega (arith, ring-length ring)
+module _ {Word : Type 0} (f : Point → List Word) (two : (p : Point) → length (f p) ≡ 2) where
+  line-length : (l : Line) → length (flatMap f l) ≡ 2 * length l
+  unfolding flatMap
+  line-length [] = refl
+  line-length (p ∷ l) = omega (arith, length-append (f p) (flatMap f l), two p, line-length l)
 
-points-length : (rings : List Line) → length (packedPoints rings) ≡ 2 * total length rings
-unfolding packedPoints total
-points-length [] = refl
-points-length (ring ∷ rings) = omega (arith, length-append (ringWords ring) (packedPoints rings), ring-length ring, points-length rings)
+  words-length : (rings : List Line) → length (flatMap (flatMap f) rings) ≡ 2 * total length rings
+  unfolding flatMap total
+  words-length [] = refl
+  words-length (ring ∷ rings) = omega (arith, length-append (flatMap f ring) (flatMap (flatMap f) rings), line-length ring, words-length rings)
 
 records-length : (k first : ℕ) (rings : List Line) → length (bareRecords k first rings) ≡ 4 * length rings
 unfolding bareRecords recordOf
 records-length k first [] = refl
 records-length k first (ring ∷ rings) = omega (arith, records-length (suc k) (first + length ring) rings)
 
-all-small : (dx dy : ℕ) → 2 * dx < 2 ^ 16 → 2 * dy < 2 ^ 16 → (l : Line) → Each (Within dx dy) l → Each Small l
-all-small dx dy hx hy [] w = tt
-all-small dx dy hx hy (p ∷ l) w = ((omega (arith, w .0 .0), omega (arith, w .0 .1)), all-small dx dy hx hy l (w .1))
+-- ---- the points as words
 
-rings-small : (dx dy : ℕ) → 2 * dx < 2 ^ 16 → 2 * dy < 2 ^ 16 → (rings : List Line) → Each (RingLaw dx dy) rings → Each (Each Small) rings
-rings-small dx dy hx hy [] w = tt
-rings-small dx dy hx hy (ring ∷ rings) w = (all-small dx dy hx hy ring (w .0 .inside), rings-small dx dy hx hy rings (w .1))
+-- both coordinates
+both : Point → List ℕ
+both p = p .x ∷ p .y ∷ []
+
+ring-packed : (ring : Line) → flatMap both ring ≡ ringWords ring
+unfolding flatMap both ringWords
+ring-packed [] = refl
+ring-packed (p ∷ ring) = ap (λ (w : List ℕ). p .x ∷ p .y ∷ w) (ring-packed ring)
+
+rings-packed : (rings : List Line) → flatMap (flatMap both) rings ≡ packedPoints rings
+unfolding flatMap packedPoints
+rings-packed [] = refl
+rings-packed (ring ∷ rings) = ap₂ (λ (a b : List ℕ). a ++ b) (ring-packed ring) (rings-packed rings)
+
+-- both as words of 16 bits, which hold them on a grid whose sides are short
+narrow : Point → List ℕ
+narrow p = p .x % 2 ^ 16 ∷ p .y % 2 ^ 16 ∷ []
+
+module _ (dx dy : ℕ) (hx : 2 * dx < 2 ^ 16) (hy : 2 * dy < 2 ^ 16) where
+  ring-narrow : (ring : Line) → Each (Within dx dy) ring → flatMap narrow ring ≡ flatMap both ring
+  unfolding flatMap narrow both
+  ring-narrow [] w = refl
+  ring-narrow (p ∷ ring) w =
+      ap₂ (λ (a b : List ℕ). a ++ b) (ap₂ (λ (x y : ℕ). x ∷ y ∷ []) (mod-eq-of-lt (omega (arith, w .0 .0))) (mod-eq-of-lt (omega (arith, w .0 .1)))) (ring-narrow ring (w .1))
+
+  rings-narrow : (rings : List Line) → Each (RingLaw dx dy) rings → flatMap (flatMap narrow) rings ≡ flatMap (flatMap both) rings
+  unfolding flatMap
+  rings-narrow [] w = refl
+  rings-narrow (ring ∷ rings) w = ap₂ (λ (a b : List ℕ). a ++ b) (ring-narrow ring (w .0 .inside)) (rings-narrow rings (w .1))
 
 module _ (A : Sheet) {dx dy : ℕ} (out : Outside A dx dy) where
-  pub packed-points-fill-their-room : length (packedPoints (ringsOf A dx dy)) ≡ pointWords (segmentCount A dx dy) (ringCount A dx dy)
+  -- two words a point, whatever they are
+  pub words-fill-their-room : {Word : Type 0} (f : Point → List Word) → ((p : Point) → length (f p) ≡ 2)
+      → length (flatMap (flatMap f) (ringsOf A dx dy)) ≡ pointWords (segmentCount A dx dy) (ringCount A dx dy)
   unfolding pointWords pointCount
-  packed-points-fill-their-room = omega (arith, points-length (ringsOf A dx dy), points-are-segments-and-rings A out)
+  words-fill-their-room f two = omega (arith, words-length f two (ringsOf A dx dy), points-are-segments-and-rings A out)
+
+  pub packed-points-fill-their-room : length (packedPoints (ringsOf A dx dy)) ≡ pointWords (segmentCount A dx dy) (ringCount A dx dy)
+  packed-points-fill-their-room = ap length (sym (rings-packed (ringsOf A dx dy))) ∙ words-fill-their-room both (λ p. unfold both in refl)
 
   pub records-fill-their-room : length (bareRecords 0 0 (ringsOf A dx dy)) ≡ directoryWords (ringCount A dx dy)
   unfolding directoryWords recordStride ringCount
@@ -102,11 +134,19 @@ module _ (A : Sheet) {dx dy : ℕ} (out : Outside A dx dy) where
     pub rings-found : after .progress .rings ≡ ringCount A dx dy
     rings-found = holds .held .rings-are ∙ loops-are
 
+    -- the words of the rings' points by any function of a point, ring by ring
+    pub words-found : {Word : Type 0} (f : Point → List Word)
+        → walkWords (λ k. f (indexedPoint dx (linkPoint (after .links) k))) (after .links) (after .progress .head) (after .progress .head) (segmentCount A dx dy) ≡ flatMap (flatMap f) (ringsOf A dx dy)
+    words-found f =
+        subst (λ (n : ℕ). walkWords (λ k. f (indexedPoint dx (linkPoint (after .links) k))) (after .links) (after .progress .head) (after .progress .head) n ≡ flatMap (flatMap f) (ringsOf A dx dy)) links-are
+        (words-walked f dx (after .links) (after .progress .head) (holds .loops) (ringsOf A dx dy) (after .progress .tail) held-rings links-below)
+
     pub points-found : 2 * dx < 2 ^ 16 → 2 * dy < 2 ^ 16 → walkPoints dx (after .links) (after .progress .head) (after .progress .head) (segmentCount A dx dy) ≡ packedPoints (ringsOf A dx dy)
+    unfolding walk.pointWords narrow
     points-found hx hy =
-        subst (λ (n : ℕ). walkPoints dx (after .links) (after .progress .head) (after .progress .head) n ≡ packedPoints (ringsOf A dx dy)) links-are
-        (points-walked dx (after .links) (after .progress .head) (holds .loops) (ringsOf A dx dy) (after .progress .tail) held-rings links-below
-        (rings-small dx dy hx hy (ringsOf A dx dy) (unfold ringsOf in rings-are-rings A out dy (suc dx) (omega arith) (omega arith))))
+        words-found narrow
+        ∙ rings-narrow dx dy hx hy (ringsOf A dx dy) (unfold ringsOf in rings-are-rings A out dy (suc dx) (omega arith) (omega arith))
+        ∙ rings-packed (ringsOf A dx dy)
 
     pub records-found : segmentCount A dx dy + ringCount A dx dy < 2 ^ 32 → walkRecords (after .links) 0 0 (after .progress .head) (segmentCount A dx dy) ≡ bareRecords 0 0 (ringsOf A dx dy)
     records-found fits =

@@ -1,7 +1,7 @@
 -- One walk along the links, from the first link of the first ring, gives the points and the records of all rings in order: a link that holds the mark is the
 -- last of its ring, and holds with it the first link of the next. Assumes nothing.
-use Prim.Native.Nat.{ℕ, zero, suc, _+_, _-_, _*_, _%_, _^_}
-use mathlib.Core.Bool.{Bool, true, false, cond}
+use Prim.Native.Nat.{ℕ, zero, suc, _+_, _-_, _%_, _^_}
+use mathlib.Core.Bool.{cond}
 use mathlib.Core.List.{List, [], _∷_, _++_}
 use lib.Dec.{ltb}
 use Rattle.scope.specs.Limits.{noOwner}
@@ -12,13 +12,17 @@ use Rattle.machine.specs.Machine.{mark, linkPoint, linkNext}
 unfoldable pub pointWords : ℕ → List ℕ → ℕ → List ℕ
 pointWords dx links k = indexedPoint dx (linkPoint links k) .x % 2 ^ 16 ∷ indexedPoint dx (linkPoint links k) .y % 2 ^ 16 ∷ []
 
--- n links from link k on, in a ring that began at link first; the first point stands again at a ring's end
-unfoldable pub walkPoints : ℕ → List ℕ → ℕ → ℕ → ℕ → List ℕ
-walkPoints dx links first k zero = []
-walkPoints dx links first k (suc n) =
+-- the words of n links from link k on, in a ring that began at link first; the words of the first stand again at a ring's end
+unfoldable pub walkWords : {Word : Type 0} → (ℕ → List Word) → List ℕ → ℕ → ℕ → ℕ → List Word
+walkWords words links first k zero = []
+walkWords words links first k (suc n) =
     cond (ltb (linkNext links k) mark)
-    (pointWords dx links k ++ walkPoints dx links first (linkNext links k) n)
-    (pointWords dx links k ++ (pointWords dx links first ++ walkPoints dx links (linkNext links k - mark) (linkNext links k - mark) n))
+    (words k ++ walkWords words links first (linkNext links k) n)
+    (words k ++ (words first ++ walkWords words links (linkNext links k - mark) (linkNext links k - mark) n))
+
+-- the points of n links
+abbrev pub walkPoints : ℕ → List ℕ → ℕ → ℕ → ℕ → List ℕ
+walkPoints dx links = walkWords (pointWords dx links) links
 
 -- a ring's record: first point, point count, class of a bare ring, no owner
 unfoldable pub recordWords : ℕ → ℕ → List ℕ

@@ -13,32 +13,33 @@ use Rattle.packing.specs.Cleared.{cleared}
 
 -- ---- stores one after the other
 
--- stores keep the length
-pub stores-keep-the-length : (l : List ℕ) (i : ℕ) (vs : List ℕ) → length (sets l i vs) ≡ length l
-stores-keep-the-length l i vs = length-sets l i vs
+module _ {Word : Type 0} where
+  -- stores keep the length
+  pub stores-keep-the-length : (l : List Word) (i : ℕ) (vs : List Word) → length (sets l i vs) ≡ length l
+  stores-keep-the-length l i vs = length-sets l i vs
 
--- where there is room, stores from word 0 on put their values in front
-pub stores-from-the-start : (l vs : List ℕ) → length vs ≤ length l → sets l 0 vs ≡ vs ++ drop (length vs) l
-stores-from-the-start l vs h = sets-eq vs l 0 (rw zero-add h) ∙ rw zero-add
+  -- where there is room, stores from word 0 on put their values in front
+  pub stores-from-the-start : (l vs : List Word) → length vs ≤ length l → sets l 0 vs ≡ vs ++ drop (length vs) l
+  stores-from-the-start l vs h = sets-eq vs l 0 (rw zero-add h) ∙ rw zero-add
 
-pub stored-words-stand-first : (l vs : List ℕ) → length vs ≤ length l → take (length vs) (sets l 0 vs) ≡ vs
-stored-words-stand-first l vs h = rw stores-from-the-start (take-append-seam vs (drop (length vs) l))
+  pub stored-words-stand-first : (l vs : List Word) → length vs ≤ length l → take (length vs) (sets l 0 vs) ≡ vs
+  stored-words-stand-first l vs h = rw stores-from-the-start (take-append-seam vs (drop (length vs) l))
 
--- and the words past them stay
-pub words-past-the-stores-stay : (l vs : List ℕ) → length vs ≤ length l → drop (length vs) (sets l 0 vs) ≡ drop (length vs) l
-words-past-the-stores-stay l vs h = rw stores-from-the-start (drop-append-seam vs (drop (length vs) l))
+  -- and the words past them stay
+  pub words-past-the-stores-stay : (l vs : List Word) → length vs ≤ length l → drop (length vs) (sets l 0 vs) ≡ drop (length vs) l
+  words-past-the-stores-stay l vs h = rw stores-from-the-start (drop-append-seam vs (drop (length vs) l))
 
--- two runs of stores are one
-pub stores-follow : (l : List ℕ) (i : ℕ) (vs ws : List ℕ) → sets l i (vs ++ ws) ≡ sets (sets l i vs) (i + length vs) ws
-stores-follow l i [] ws = rw add-zero
-stores-follow l i (v ∷ vs) ws =
-    let e : i + suc (length vs) ≡ suc i + length vs = omega arith in
-    rw e (stores-follow (set l i v) (suc i) vs ws)
+  -- two runs of stores are one
+  pub stores-follow : (l : List Word) (i : ℕ) (vs ws : List Word) → sets l i (vs ++ ws) ≡ sets (sets l i vs) (i + length vs) ws
+  stores-follow l i [] ws = rw add-zero
+  stores-follow l i (v ∷ vs) ws =
+      let e : i + suc (length vs) ≡ suc i + length vs = omega arith in
+      rw e (stores-follow (set l i v) (suc i) vs ws)
 
--- past the end nothing is stored
-pub stores-past-the-end : (l : List ℕ) (i : ℕ) (vs : List ℕ) → length l ≤ i → sets l i vs ≡ l
-stores-past-the-end l i [] h = refl
-stores-past-the-end l i (v ∷ vs) h = rw (set-out l i v) (stores-past-the-end l (suc i) vs (omega arith))
+  -- past the end nothing is stored
+  pub stores-past-the-end : (l : List Word) (i : ℕ) (vs : List Word) → length l ≤ i → sets l i vs ≡ l
+  stores-past-the-end l i [] h = refl
+  stores-past-the-end l i (v ∷ vs) h = rw (set-out l i v) (stores-past-the-end l (suc i) vs (omega arith))
 
 -- ---- a cleared table
 

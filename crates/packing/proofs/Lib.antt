@@ -1,3 +1,3 @@
--- What the proofs of this crate share, and in `Laws` what its callers cite.
+-- What the proofs of this crate and of `plotting` share, and in `Laws` what callers cite.
 pub mod Laws
 pub mod Walks

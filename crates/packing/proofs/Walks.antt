@@ -1,5 +1,6 @@
 -- The two loops. The walk's invariant has two parts, of the points and of the records: storing what the links not yet walked give leaves what storing the
--- whole walk leaves, and a turn stores what one link gives. Clearing has cleared the words so far. Assumes nothing.
+-- whole walk leaves, and a turn stores what one link gives. The part of the points is for any words of a link, two each. Clearing has cleared the words so
+-- far. Assumes nothing.
 use mathlib.Core.Path.{_≡_, refl, sym, ap, _∙_}
 use mathlib.Core.List.{List, _++_}
 use Prim.Native.Nat.{ℕ, zero, suc, _+_, _-_, _*_, _≤_, _<_}
@@ -9,73 +10,75 @@ use lib.ListN.{length, set}
 use lib.Seq.{sets, length-sets}
 use borrow.Author.Tests.{lt-ltb, le-ltb}
 use Rattle.machine.specs.Machine.{mark, linkNext}
-use Rattle.machine.specs.Walk.{pointWords, walkPoints, recordWords, walkRecords}
+use Rattle.machine.specs.Walk.{walkWords, recordWords, walkRecords}
 use Rattle.packing.specs.Cleared.{cleared}
 use Rattle.packing.proofs.Laws.{stores-follow, cleared-none, clearing-keeps-the-length, a-table-is-cleared-whole, one-word-more}
 
 -- ---- a run of stores, part of which is made
 
--- storing the rest from word at on leaves what storing the whole from word 0 on in the table at the start leaves
-pub record Stored (start whole : List ℕ) (at : ℕ) (table rest : List ℕ) : Type 0 where
-  pub leaves : sets start 0 whole ≡ sets table at rest
+module _ {Word : Type 0} where
+  -- storing the rest from word at on leaves what storing the whole from word 0 on in the table at the start leaves
+  pub record Stored (start whole : List Word) (at : ℕ) (table rest : List Word) : Type 0 where
+    pub leaves : sets start 0 whole ≡ sets table at rest
 
-pub stored-room : {start whole : List ℕ} {at : ℕ} {table rest : List ℕ} → Stored start whole at table rest → length table ≡ length start
-stored-room {start} {whole} {at} {table} {rest} s =
-    sym (length-sets table at rest) ∙ sym (ap length (s .leaves)) ∙ length-sets start 0 whole
+  pub stored-room : {start whole : List Word} {at : ℕ} {table rest : List Word} → Stored start whole at table rest → length table ≡ length start
+  stored-room {start} {whole} {at} {table} {rest} s =
+      sym (length-sets table at rest) ∙ sym (ap length (s .leaves)) ∙ length-sets start 0 whole
 
-stored-next : {start whole : List ℕ} {at : ℕ} {table rest : List ℕ} → Stored start whole at table rest →
-    (words after : List ℕ) (table′ : List ℕ) → rest ≡ words ++ after → table′ ≡ sets table at words →
-    Stored start whole (at + length words) table′ after
-stored-next {start} {whole} {at} {table} s words after table′ e f =
-    record { leaves = s .leaves ∙ ap (sets table at) e ∙ stores-follow table at words after ∙ rw f }
+  stored-next : {start whole : List Word} {at : ℕ} {table rest : List Word} → Stored start whole at table rest →
+      (words after : List Word) (table′ : List Word) (size : ℕ) → length words ≡ size → rest ≡ words ++ after → table′ ≡ sets table at words →
+      Stored start whole (at + size) table′ after
+  stored-next {start} {whole} {at} {table} s words after table′ size n e f =
+      record { leaves = s .leaves ∙ ap (sets table at) e ∙ stores-follow table at words after ∙ rw (f, n) }
 
 -- ---- the points
 
-module _ (dx : ℕ) (links : List ℕ) (first k : ℕ) where
-  points-along : (left : ℕ) → 0 < left → linkNext links k < mark →
-      walkPoints dx links first k left ≡ pointWords dx links k ++ walkPoints dx links first (linkNext links k) (left - 1)
-  unfolding walkPoints
-  points-along zero more h = absurd (omega arith)
-  points-along (suc n) more h = let fewer : suc n - 1 ≡ n = omega arith in rw (lt-ltb _ _ h, fewer)
+-- words gives the words of a link's point
+module _ {Word : Type 0} (words : ℕ → List Word) (links : List ℕ) where
+  module _ (first k : ℕ) where
+    points-along : (left : ℕ) → 0 < left → linkNext links k < mark →
+        walkWords words links first k left ≡ words k ++ walkWords words links first (linkNext links k) (left - 1)
+    unfolding walkWords
+    points-along zero more h = absurd (omega arith)
+    points-along (suc n) more h = let fewer : suc n - 1 ≡ n = omega arith in rw (lt-ltb _ _ h, fewer)
 
-  points-around : (left : ℕ) → 0 < left → mark ≤ linkNext links k →
-      walkPoints dx links first k left
-      ≡ pointWords dx links k ++ (pointWords dx links first ++ walkPoints dx links (linkNext links k - mark) (linkNext links k - mark) (left - 1))
-  unfolding walkPoints
-  points-around zero more h = absurd (omega arith)
-  points-around (suc n) more h = let fewer : suc n - 1 ≡ n = omega arith in rw (le-ltb _ _ h, fewer)
+    points-around : (left : ℕ) → 0 < left → mark ≤ linkNext links k →
+        walkWords words links first k left ≡ words k ++ (words first ++ walkWords words links (linkNext links k - mark) (linkNext links k - mark) (left - 1))
+    unfolding walkWords
+    points-around zero more h = absurd (omega arith)
+    points-around (suc n) more h = let fewer : suc n - 1 ≡ n = omega arith in rw (le-ltb _ _ h, fewer)
 
--- the ring began at link first; left links are to be walked, from link k on, and their points go to word at and on
-pub record PointsLeft (dx : ℕ) (links start : List ℕ) (head count : ℕ) (points : List ℕ) (first k at left : ℕ) : Type 0 where
-  pub room : at + 4 * left ≤ 4 * count
-  pub so-far : Stored start (walkPoints dx links head head count) at points (walkPoints dx links first k left)
+  -- the ring began at link first; left links are to be walked, from link k on, and their points go to word at and on
+  pub record PointsLeft (start : List Word) (head count : ℕ) (points : List Word) (first k at left : ℕ) : Type 0 where
+    pub room : at + 4 * left ≤ 4 * count
+    pub so-far : Stored start (walkWords words links head head count) at points (walkWords words links first k left)
 
-pub points-begin : (dx : ℕ) (links start : List ℕ) (head count : ℕ) → PointsLeft dx links start head count start head head 0 count
-points-begin dx links start head count = record { room = omega arith; so-far = record { leaves = refl } }
+  pub points-begin : (start : List Word) (head count : ℕ) → PointsLeft start head count start head head 0 count
+  points-begin start head count = record { room = omega arith; so-far = record { leaves = refl } }
 
-module _ {dx : ℕ} {links start : List ℕ} {head count : ℕ} {points : List ℕ} {first k at left : ℕ} (s : PointsLeft dx links start head count points first k at left) where
-  pub points-end : left ≤ 0 → points ≡ sets start 0 (walkPoints dx links head head count)
-  unfolding walkPoints
+module _ {Word : Type 0} {words : ℕ → List Word} {links : List ℕ} {start : List Word} {head count : ℕ} {points : List Word} {first k at left : ℕ}
+    (s : PointsLeft words links start head count points first k at left) where
+  pub points-end : left ≤ 0 → points ≡ sets start 0 (walkWords words links head head count)
+  unfolding walkWords
   points-end h = let none : left ≡ 0 = omega arith in sym (rw none at (s .so-far .leaves))
 
-  -- a link that is not the last of its ring
-  pub points-next : {points′ : List ℕ} {next : ℕ} → 0 < left → points′ ≡ sets points at (pointWords dx links k) → next ≡ linkNext links k → next < mark →
-      PointsLeft dx links start head count points′ first next (at + 2) (left - 1)
-  unfolding pointWords
-  points-next {points′} {next} more e f h =
-      record {
-        room = omega arith;
-        so-far = rw f (stored-next (s .so-far) (pointWords dx links k) _ points′ (points-along dx links first k left more (rw f at h)) e);
-      }
+  module _ (two : (k : ℕ) → length (words k) ≡ 2) where
+    -- a link that is not the last of its ring
+    pub points-next : {points′ : List Word} {next : ℕ} → 0 < left → points′ ≡ sets points at (words k) → next ≡ linkNext links k → next < mark →
+        PointsLeft words links start head count points′ first next (at + 2) (left - 1)
+    points-next {points′} {next} more e f h =
+        record {
+          room = omega arith;
+          so-far = rw f (stored-next (s .so-far) (words k) _ points′ 2 (two k) (points-along words links first k left more (rw f at h)) e);
+        }
 
-  -- the last link of its ring
-  pub points-closed : {points′ points″ : List ℕ} {next : ℕ} → 0 < left → points′ ≡ sets points at (pointWords dx links k) → next ≡ linkNext links k → mark ≤ next →
-      points″ ≡ sets points′ (at + 2) (pointWords dx links first) →
-      PointsLeft dx links start head count points″ (next - mark) (next - mark) (at + 2 + 2) (left - 1)
-  unfolding pointWords
-  points-closed {points′} {points″} {next} more e f h g =
-      let last = stored-next (s .so-far) (pointWords dx links k) _ points′ (points-around dx links first k left more (rw f at h)) e in
-      record { room = omega arith; so-far = rw f (stored-next last (pointWords dx links first) _ points″ refl g) }
+    -- the last link of its ring
+    pub points-closed : {points′ points″ : List Word} {next : ℕ} → 0 < left → points′ ≡ sets points at (words k) → next ≡ linkNext links k → mark ≤ next →
+        points″ ≡ sets points′ (at + 2) (words first) →
+        PointsLeft words links start head count points″ (next - mark) (next - mark) (at + 2 + 2) (left - 1)
+    points-closed {points′} {points″} {next} more e f h g =
+        let last = stored-next (s .so-far) (words k) _ points′ 2 (two k) (points-around words links first k left more (rw f at h)) e in
+        record { room = omega arith; so-far = rw f (stored-next last (words first) _ points″ 2 (two first) refl g) }
 
 -- ---- the directory
 
@@ -126,7 +129,7 @@ module _ {links start : List ℕ} {head count : ℕ} {directory : List ℕ} {fir
       record {
         room = omega arith;
         few = omega arith;
-        so-far = rw (f, sum) (stored-next (s .so-far) (recordWords first (size + 2)) _ directory′ (records-around links first size k left more (rw f at h)) g);
+        so-far = rw (f, sum) (stored-next (s .so-far) (recordWords first (size + 2)) _ directory′ 4 refl (records-around links first size k left more (rw f at h)) g);
       }
 
 -- ---- clearing

@@ -9,7 +9,7 @@ ghost use Rattle.machine.specs.Walk.{pointWords, walkPoints, recordWords, walkR
 ghost use Rattle.packing.specs.Cleared.{cleared};
 
 // The last link of a ring holds this number, with the first link of the next ring added. No link has this number or a larger one.
-const MARK: u32 = 2147483648;
+pub const MARK: u32 = 2147483648;
 
 // The words of a directory record: first point, point count, class, owner.
 pub const RECORD_STRIDE: usize = 4;
@@ -21,7 +21,7 @@ const BARE_RING: u32 = 2;
 const NO_OWNER: u32 = 4294967295;
 
 // The word of a table at an index, and 0 past the end.
-fn word(table: &[u32], i: usize) -> u32
+pub fn word(table: &[u32], i: usize) -> u32
     ensures { λ r. ⌜ r ≡ getD (now (table .entry)) i 0 ⌝ }
 {
     if i < table.len() { table[i] } else { 0 }
@@ -53,7 +53,7 @@ fn word_of(n: u64) -> u32
 }
 
 // The link after link `k`, and the mark with it where `k` is the last of its ring.
-fn next_link(links: &[u32], k: u32) -> u32
+pub fn next_link(links: &[u32], k: u32) -> u32
     ensures { λ r. ⌜ r ≡ linkNext (now (links .entry)) k ⌝ }
 {
     word(links, 2 * (k as usize) + 1)
@@ -74,7 +74,7 @@ fn put_point(links: &[u32], dx: u32, k: u32, points: &mut [u16], at: usize)
 }
 
 // Stores the record of a ring as four words, from word `at` on: the number of its first point, how many points it has, its class, and no owner.
-fn put_record(directory: &mut [u32], at: usize, first: u64, count: u64)
+pub fn put_record(directory: &mut [u32], at: usize, first: u64, count: u64)
     ensures { λ _. ⌜ now (directory .exit) ≡ sets (now (directory .entry)) at (recordWords first count) ⌝ }
 {
     if at < directory.len() {

@@ -65,7 +65,9 @@ placedAt q v =
     (record { x = add binary64 (mul binary64 (v .x) (q .xStep)) (q .xOrigin); y = add binary64 (mul binary64 (v .y) (q .yStep)) (q .yOrigin) })
     v
 
--- a line's vertices, smoothed or not, then placed
+-- a vertex of a line, smoothed or not, then placed
+unfoldable pub lineVertex : Bool → List Float → Float → ℕ → ℕ → Placing → Point → Vertex
+lineVertex smooth values t dx dy q p = placedAt q (cond smooth (smoothed values t dx dy p) (unsmoothed p))
+
 unfoldable pub lineVertices : Bool → List Float → Float → ℕ → ℕ → Placing → Line → List Vertex
-lineVertices smooth values t dx dy q ring =
-    map (λ p. placedAt q (cond smooth (smoothed values t dx dy p) (unsmoothed p))) ring
+lineVertices smooth values t dx dy q ring = map (lineVertex smooth values t dx dy q) ring

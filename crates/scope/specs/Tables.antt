@@ -2,9 +2,12 @@
 use Prim.Native.Nat.{ℕ, zero, suc, _+_}
 use mathlib.Core.List.{List, [], _∷_, _++_, map}
 use lib.ListN.{length, drop, replicate}
+use mathlib.Core.Bool.{Bool}
+use lib.Ieee.{Float}
 use Rattle.scope.specs.Cells.{Point}
 use Rattle.scope.specs.Stitching.{Line}
 use Rattle.scope.specs.Contour.{Fate, line, classWord, ownerWord, contourFates}
+use Rattle.scope.specs.Smoothing.{Vertex, Placing, lineVertices}
 use Rattle.scope.specs.Band.{Numbered, numberedFrom, bandOrder, orderRings, bandFates}
 
 -- the needed words are zero, and those past the need as they were
@@ -12,7 +15,7 @@ unfoldable pub zeroed : ℕ → List ℕ → List ℕ
 zeroed need table = replicate need 0 ++ drop need table
 
 -- words written from the first on, and those not written as they were
-unfoldable pub written : List ℕ → List ℕ → List ℕ
+unfoldable pub written : {Word : Type 0} → List Word → List Word → List Word
 written words table = words ++ drop (length words) table
 
 -- a ring's points as words X, Y, X, Y, and so on
@@ -24,6 +27,20 @@ ringWords (p ∷ l) = p .x ∷ p .y ∷ ringWords l
 unfoldable pub packedPoints : List Line → List ℕ
 packedPoints [] = []
 packedPoints (ring ∷ rings) = ringWords ring ++ packedPoints rings
+
+-- a line's vertices as words x, y, x, y, and so on
+unfoldable pub vertexWords : List Vertex → List Float
+vertexWords [] = []
+vertexWords (v ∷ l) = v .x ∷ v .y ∷ vertexWords l
+
+-- the vertices of all lines, packed, where a line has these vertices
+unfoldable pub packedVertices : (Line → List Vertex) → List Line → List Float
+packedVertices vertices [] = []
+packedVertices vertices (ring ∷ rings) = vertexWords (vertices ring) ++ packedVertices vertices rings
+
+-- the points of lines: the rings' vertices in their order, smoothed or not, then placed
+unfoldable pub linePoints : Bool → List Float → Float → ℕ → ℕ → Placing → List Line → List Float
+linePoints smooth values t dx dy q rings = packedVertices (lineVertices smooth values t dx dy q) rings
 
 -- a record: first point, point count, class, owner; k is the record's own number
 unfoldable pub recordOf : ℕ → ℕ → Line → Fate → List ℕ

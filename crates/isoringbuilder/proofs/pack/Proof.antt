@@ -2,7 +2,7 @@
 use native.Mathlib.Omega.{arith}
 use Rattle.scope.specs.Limits.{recordStride}
 use Rattle.scope.specs.Room.{pointWords, pointCount, directoryWords}
-use Rattle.isoringbuilder.proofs.Packing.{points-short, directory-short, both-fit}
+use Rattle.isoringbuilder.proofs.Packing.{points-short, directory-short, both-fit, as-packed}
 use borrow.Author.Needs.{needs}
 use Rattle.isoringbuilder.proofs.pack.Statement.{statement}
 use Rattle.isoringbuilder.proofs.pack.Tie as tie
@@ -21,7 +21,7 @@ mul-if1 c = search needs
 
 returns : tie.Need-returns
 unfolding pointWords pointCount
-returns c = points-short _ _ _ _ _ (omega arith)
+returns c = as-packed (points-short _ _ _ _ _ (omega arith))
 
 cast-if2 : tie.Need-cast-if2
 cast-if2 c = search needs
@@ -31,7 +31,7 @@ mul-if2 c = search needs
 
 returns-2 : tie.Need-returns-2
 unfolding pointWords pointCount directoryWords recordStride
-returns-2 c = directory-short _ _ _ _ _ (omega arith) (omega arith)
+returns-2 c = as-packed (directory-short _ _ _ _ _ (omega arith) (omega arith))
 
 write-rings-requires : tie.Need-write-rings-requires
 write-rings-requires c κs = search needs
@@ -46,7 +46,7 @@ returns-3 : tie.Need-returns-3
 unfolding pointWords pointCount directoryWords recordStride
 returns-3 c =
     let stored = c .before .before .before .before .write-rings .ensures in
-    rw (stored .0, stored .1) (both-fit _ _ _ _ _ (omega arith) (omega arith))
+    rw (stored .0, stored .1) (as-packed (both-fit _ _ _ _ _ (omega arith) (omega arith)))
 
 pub pack-spec : {M : Type 1} → statement M
 pack-spec =

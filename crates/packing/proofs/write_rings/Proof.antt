@@ -1,8 +1,10 @@
 -- `packing::write_rings` meets its contract. The loop's invariant is `PointsLeft` with `RecordsLeft`: storing the points and the records of the links not yet
 -- walked leaves what is asked. The measure is the number of links not yet walked. Assumes nothing.
+use mathlib.Core.Path.{refl}
 use native.Mathlib.Omega.{arith}
 use borrow.Author.Needs.{needs}
 use Rattle.machine.specs.Machine.{mark}
+use Rattle.machine.specs.Walk.{pointWords}
 use Rattle.packing.proofs.Walks.{PointsLeft, points-begin, points-next, points-closed, points-end}
 use Rattle.packing.proofs.Walks.{RecordsLeft, records-begin, records-next, records-closed, records-end, stored-room}
 use Rattle.packing.proofs.write_rings.Statement.{statement}
@@ -10,7 +12,7 @@ use Rattle.packing.proofs.write_rings.Tie as tie
 
 abbrev Inv-loop : tie.InvT-loop
 Inv-loop links dx head count points₀ directory₀ first₀ k₀ at₀ first-point₀ size₀ record-at₀ left₀ points directory first k at first-point size record-at left =
-    PointsLeft dx links points₀ head count points first k at left ×
+    PointsLeft (pointWords dx links) links points₀ head count points first k at left ×
     RecordsLeft links directory₀ head count directory first-point size k record-at left
 
 abbrev μ-loop : tie.MeasureT-loop
@@ -39,14 +41,14 @@ loop-less : tie.Need-loop-less Inv-loop μ-loop
 loop-less c = omega arith
 
 loop-again : tie.Need-loop-again Inv-loop μ-loop
-unfolding mark
+unfolding mark pointWords
 loop-again c =
     let called = c .before .before .before .before in
     let turn = called .before .before in
     let inv = turn .before .loop .inv in
     let more = turn .loop-test .taken in
     let next = c .before .next-link .ensures in (
-      points-next (inv .0) more (called .put-point .ensures) next (c .if1 .taken),
+      points-next (inv .0) (λ k. refl) more (called .put-point .ensures) next (c .if1 .taken),
       records-next (inv .1) more next (c .if1 .taken),
     )
 
@@ -72,7 +74,7 @@ loop-less-2 : tie.Need-loop-less-2 Inv-loop μ-loop
 loop-less-2 c = omega arith
 
 loop-again-2 : tie.Need-loop-again-2 Inv-loop μ-loop
-unfolding mark
+unfolding mark pointWords
 loop-again-2 c =
     let recorded = c .before .before in
     let closed = recorded .before .before .before .before in
@@ -82,7 +84,7 @@ loop-again-2 c =
     let inv = turn .before .loop .inv in
     let more = turn .loop-test .taken in
     let next = tested .before .next-link .ensures in (
-      points-closed (inv .0) more (called .put-point .ensures) next (tested .if1 .left) (closed .put-point2 .ensures),
+      points-closed (inv .0) (λ k. refl) more (called .put-point .ensures) next (tested .if1 .left) (closed .put-point2 .ensures),
       records-closed (inv .1) more next (tested .if1 .left) (recorded .put-record .ensures),
     )
 

@@ -1,0 +1,2 @@
+-- What the pass and the plotting lead to.
+pub mod Laws

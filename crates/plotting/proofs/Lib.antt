@@ -1,0 +1,2 @@
+-- What callers cite of the points of lines.
+pub mod Laws

@@ -1,0 +1,13 @@
+-- The words of a line's vertex, by the link that starts at its point. Assumes nothing.
+use Prim.Native.Nat.{ℕ}
+use mathlib.Core.Bool.{Bool}
+use mathlib.Core.List.{List, [], _∷_}
+use lib.Ieee.{Float}
+use Rattle.scope.specs.Cells.{indexedPoint}
+use Rattle.scope.specs.Smoothing.{Placing, lineVertex}
+use Rattle.scope.specs.Tables.{vertexWords}
+use Rattle.machine.specs.Machine.{linkPoint}
+
+-- x, then y
+unfoldable pub vertexAt : Bool → List Float → Float → ℕ → ℕ → Placing → List ℕ → ℕ → List Float
+vertexAt smooth values t dx dy q links k = vertexWords (lineVertex smooth values t dx dy q (indexedPoint dx (linkPoint links k)) ∷ [])

@@ -1,0 +1,2 @@
+-- What the code's placement and vertex stand for.
+pub mod Values
