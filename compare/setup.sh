@@ -69,6 +69,17 @@ library_has() {
     grep -q " T $1\$" <<<"$symbols"
 }
 
+# What a driver is to be built with: $features, by what the placed library has beside the rings.
+find_features() {
+    features=()
+    if library_has contour_contours; then
+        features+=(--features regions)
+    fi
+    if library_has contour_lines; then
+        features+=(--features lines)
+    fi
+}
+
 # Debian's own rustc and cargo, whatever else is on the path, with no settings of the user's. The folder
 # compare/ says where the dependencies stand, so cargo is called there, with the package to build.
 build_package() {

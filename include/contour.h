@@ -1,6 +1,6 @@
 /*
- * Rings of a terrain of samples, their areas and containment, and the polygons with holes that they make:
- * the C interface of libcontour_c.a.
+ * Rings of a terrain of samples, their areas and containment, the polygons with holes that they make, and
+ * smoothed and placed lines: the C interface of libcontour_c.a.
  *
  * The library allocates nothing and keeps nothing between calls. The caller lends every table. A call
  * returns 0 and has done its work, or returns the number of a refusal. Every input has an answer: each
@@ -13,7 +13,8 @@
  * Coordinates are doubled whole numbers: sample (column, row) stands at (2 * column + 1, 2 * row + 1), and
  * every coordinate is at most 8,192. A ring is a closed list of points, its first point repeated last, as
  * words x, y, x, y, and so on. A ring about samples that are above has a positive area, a hole a negative
- * one.
+ * one. The coordinates of lines are doubles: before a line is placed, sample (column, row) stands at
+ * (column + 0.5, row + 0.5).
  *
  * Sizes: S is the number of segments drawn, R the number of rings, H the largest number of lines that are
  * open at a time.
@@ -21,22 +22,22 @@
  *     table          words             of type
  *     open table     4 * H + dx + 2    uint32_t
  *     link table     2 * S             uint32_t
- *     points         2 * (S + R)       uint16_t
+ *     points         2 * (S + R)       uint16_t, of lines double
  *     directory      4 * R             uint32_t
  *
  * contour_first_report gives S and H, which size both work tables. contour_second_report, lent these,
  * gives R and the number of points S + R too, which size the outputs. R is at most S / 4, for a caller who
  * would rather not ask twice. S is at most 2 * dx * dy + dx + dy, and H at most (dx + 2) / 2.
  *
- * A contour takes the room of its rings. A band has two sets of rings, one for either threshold, and needs
- * the larger H, the larger S, and the sums of the sets' points and rings. contour_band_first_report gives H
- * and S, contour_band_second_report R and the number of points too, which is at most 2 * S + R here. R is at
- * most S / 2.
+ * A contour and lines take the room of their rings. A band has two sets of rings, one for either threshold,
+ * and needs the larger H, the larger S, and the sums of the sets' points and rings. contour_band_first_report
+ * gives H and S, contour_band_second_report R and the number of points too, which is at most 2 * S + R here. R
+ * is at most S / 2.
  *
  * A directory record has four words: the number of the ring's first point, its number of points, its class
- * and its owner. The class is 0 for a polygon, 1 for a hole and 2 for a bare ring. A polygon owns itself, and
- * a hole has the record number of its polygon for owner. 4,294,967,295 is no owner: a bare ring has none, and
- * a hole that belongs to no polygon is dropped.
+ * and its owner. The class is 0 for a polygon, 1 for a hole and 2 for a bare ring or a line. A polygon owns
+ * itself, and a hole has the record number of its polygon for owner. 4,294,967,295 is no owner: a bare ring and
+ * a line have none, and a hole that belongs to no polygon is dropped.
  *
  * Refusals. The lowest that applies is returned, alone:
  *
@@ -149,6 +150,25 @@ uint32_t contour_isobands(const double *values, size_t count, const double *thre
                           size_t k, size_t dx, size_t dy, uint32_t *lines, size_t lines_words, uint32_t *links,
                           size_t links_words, uint16_t *points, size_t points_words, uint32_t *directory,
                           size_t directory_words, uint32_t *rings);
+
+/*
+ * Draws the lines of the terrain: the rings of contour_rings, in the same order, with half their coordinates,
+ * smoothed unless smooth is 0, then placed.
+ *
+ * Smoothing moves a coordinate that is whole, above 0 and below the side: x becomes
+ * x + (threshold - v0) / (v1 - v0) - 0.5, where v1 is the sample in column x of the vertex's row and v0 the one
+ * in the column before; y likewise, with the sample in row y of the vertex's column and the one in the row
+ * before. Other coordinates stay. Placing makes x * x_step + x_origin and y * y_step + y_origin of x and y,
+ * unless both origins are 0 and both steps are 1. Each operation is rounded once, from left to right. Numbers
+ * that are infinite, NaN or huge may give coordinates that are infinite or NaN.
+ *
+ * Returns and leaves what contour_rings does, but for the points, which are doubles.
+ */
+uint32_t contour_lines(const double *values, size_t count, double threshold, size_t dx, size_t dy,
+                       uint32_t smooth, double x_origin, double y_origin, double x_step, double y_step,
+                       uint32_t *lines, size_t lines_words, uint32_t *links, size_t links_words,
+                       double *points, size_t points_words, uint32_t *directory, size_t directory_words,
+                       uint32_t *rings);
 
 /*
  * The area of a ring: the sum over i of y(i-1) * x(i) - x(i-1) * y(i), the last point standing before the

@@ -32,14 +32,16 @@ fn main() {
             std::process::exit(2);
         }
     };
-    let has_regions = cfg!(feature = "regions");
     let lines = terrains::LINES.into_iter();
     let closing: Vec<String> = lines
-        .filter(|(_, _, figure, _)| has_regions || matches!(figure, Figure::Rings(_)))
+        .filter(|(_, _, figure, _)| figure.is_in_library())
         .map(|line| bench(line, runs))
         .collect();
-    if !has_regions {
+    if !cfg!(feature = "regions") {
         println!("contours and bands are not in the library: not timed");
+    }
+    if !cfg!(feature = "lines") {
+        println!("lines are not in the library: not timed");
     }
     for line in closing {
         println!("{line}");
@@ -69,7 +71,7 @@ fn bench((name, make, figure, against): Line, runs: usize) -> String {
     format!("{quotient} {name} {:.2}", over / under)
 }
 
-/// Both sides draw the same, or there is nothing to time: the same rings or polygons where the crate is
+/// Both sides draw the same, or there is nothing to time: the same rings, polygons or lines where the crate is
 /// asked, else the same points. Returns how many points and rings there are.
 fn check(name: &str, terrain: &Terrain, figure: Figure, against: Against) -> (usize, usize) {
     let drawn = ours::draw(terrain, figure);
@@ -82,7 +84,7 @@ fn check(name: &str, terrain: &Terrain, figure: Figure, against: Against) -> (us
         }
     };
     assert!(same, "{name}: the two sides draw different things");
-    (drawn.words().len() / 2, drawn.records().count())
+    (drawn.words().count() / 2, drawn.records().count())
 }
 
 /// Our rings at each threshold.

@@ -2,6 +2,7 @@
 
 use crate::declared::*;
 use crate::terrains::{Figure, Terrain};
+use std::ops::Range;
 
 /// Calls one of three functions, for rings, contours or a band, with a terrain and what else it takes. The
 /// last two are called only where the library has them.
@@ -17,18 +18,40 @@ macro_rules! call {
             Figure::Band(list) => unsafe {
                 $band(at, count, list.as_ptr(), list.len(), 0, dx, dy, $($rest),*)
             },
-            #[cfg(not(feature = "regions"))]
-            _ => unreachable!("no contours and no bands in the library"),
+            _ => unreachable!("no such entry in the library"),
         };
         assert!(number == 0, "refusal {number}");
     }};
 }
 
-/// The tables of a build, which may be longer than what is drawn.
+/// What is drawn, in tables that may be longer.
 pub struct Drawn {
-    points: Vec<u16>,
+    points: Points,
     directory: Vec<u32>,
     rings: u32,
+}
+
+enum Points {
+    Words(Vec<u16>),
+    Floats(Vec<f64>),
+}
+
+impl Points {
+    /// So many words for a figure.
+    fn zeroed(figure: Figure, words: usize) -> Self {
+        match figure {
+            Figure::Lines(_) => Points::Floats(vec![0.0; words]),
+            _ => Points::Words(vec![0; words]),
+        }
+    }
+
+    /// Some of the words, of floats the bit patterns.
+    fn part(&self, range: Range<usize>) -> Box<dyn Iterator<Item = u64> + '_> {
+        match self {
+            Points::Words(words) => Box::new(words[range].iter().map(|&word| word.into())),
+            Points::Floats(floats) => Box::new(floats[range].iter().map(|float| float.to_bits())),
+        }
+    }
 }
 
 impl Drawn {
@@ -39,24 +62,29 @@ impl Drawn {
     }
 
     /// The words of all points.
-    pub fn words(&self) -> &[u16] {
+    pub fn words(&self) -> impl Iterator<Item = u64> + '_ {
         let points: u32 = self.records().map(|record| record[1]).sum();
-        &self.points[..2 * points as usize]
+        self.points.part(0..2 * points as usize)
     }
 
     /// The words of a record's points.
-    pub fn ring(&self, [first, count, ..]: [u32; 4]) -> &[u16] {
-        &self.points[2 * first as usize..][..2 * count as usize]
+    pub fn ring(&self, [first, count, ..]: [u32; 4]) -> Vec<u64> {
+        let [first, count] = [first, count].map(|number| 2 * number as usize);
+        self.points.part(first..first + count).collect()
     }
 }
 
 /// Draws into tables allocated here. A ring has four segments or more, which bounds the rings before they
-/// are drawn.
+/// are drawn. The report of lines is that of rings.
 pub fn draw(terrain: &Terrain, figure: Figure) -> Drawn {
-    let (mut segments, mut peak, mut rings) = (0, 0, 0);
+    let (mut segments, mut peak) = (0, 0);
+    let reported = match figure {
+        Figure::Lines(threshold) => Figure::Rings(threshold),
+        other => other,
+    };
     call!(
         terrain,
-        figure,
+        reported,
         [
             contour_first_report,
             contour_first_report,
@@ -69,25 +97,74 @@ pub fn draw(terrain: &Terrain, figure: Figure) -> Drawn {
     let sets = figure.thresholds().len();
     let mut lines = vec![0; 4 * peak + terrain.dx + 2];
     let mut links = vec![0; 2 * segments];
-    let mut points = vec![0; sets * 2 * (segments + segments / 4)];
-    let mut directory = vec![0; sets * 4 * (segments / 4)];
-    call!(
-        terrain,
-        figure,
-        [contour_rings, contour_contours, contour_isobands],
-        lines.as_mut_ptr(),
-        lines.len(),
-        links.as_mut_ptr(),
-        links.len(),
-        points.as_mut_ptr(),
-        points.len(),
-        directory.as_mut_ptr(),
-        directory.len(),
-        &mut rings
-    );
-    Drawn {
+    let mut drawn = Drawn {
+        points: Points::zeroed(figure, sets * 2 * (segments + segments / 4)),
+        directory: vec![0; sets * 4 * (segments / 4)],
+        rings: 0,
+    };
+    let Drawn {
         points,
         directory,
         rings,
+    } = &mut drawn;
+    match points {
+        #[cfg(feature = "lines")]
+        Points::Floats(floats) => {
+            let tables = [&mut lines, &mut links, directory];
+            draw_lines(terrain, figure, tables, floats, rings);
+        }
+        #[cfg(not(feature = "lines"))]
+        Points::Floats(_) => unreachable!("no lines in the library"),
+        Points::Words(words) => call!(
+            terrain,
+            figure,
+            [contour_rings, contour_contours, contour_isobands],
+            lines.as_mut_ptr(),
+            lines.len(),
+            links.as_mut_ptr(),
+            links.len(),
+            words.as_mut_ptr(),
+            words.len(),
+            directory.as_mut_ptr(),
+            directory.len(),
+            rings
+        ),
     }
+    drawn
+}
+
+/// Smoothed and placed lines, into open table, link table, directory and points.
+#[cfg(feature = "lines")]
+fn draw_lines(
+    terrain: &Terrain,
+    figure: Figure,
+    [lines, links, directory]: [&mut Vec<u32>; 3],
+    points: &mut [f64],
+    rings: &mut u32,
+) {
+    use crate::terrains::{ORIGIN, STEP};
+    let number = unsafe {
+        contour_lines(
+            terrain.values.as_ptr(),
+            terrain.values.len(),
+            figure.thresholds()[0],
+            terrain.dx,
+            terrain.dy,
+            1,
+            ORIGIN[0],
+            ORIGIN[1],
+            STEP[0],
+            STEP[1],
+            lines.as_mut_ptr(),
+            lines.len(),
+            links.as_mut_ptr(),
+            links.len(),
+            points.as_mut_ptr(),
+            points.len(),
+            directory.as_mut_ptr(),
+            directory.len(),
+            rings,
+        )
+    };
+    assert!(number == 0, "refusal {number}");
 }

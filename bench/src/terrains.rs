@@ -1,7 +1,7 @@
 //! The terrains, what is drawn of each, and what it is held against. The noise comes from a fixed seed.
 
 use Against::{Crate, OurRings};
-use Figure::{Band, Contours, Rings};
+use Figure::{Band, Contours, Lines, Rings};
 
 pub struct Terrain {
     pub dx: usize,
@@ -15,15 +15,30 @@ pub enum Figure {
     Rings(f64),
     Contours(f64),
     Band([f64; 2]),
+    /// Smoothed, and placed by `ORIGIN` and `STEP`.
+    Lines(f64),
 }
+
+/// Where lines are placed: x first.
+pub const ORIGIN: [f64; 2] = [10.0, 20.0];
+pub const STEP: [f64; 2] = [0.5, 0.25];
 
 impl Figure {
     pub fn thresholds(&self) -> &[f64] {
         match self {
-            Figure::Rings(threshold) | Figure::Contours(threshold) => {
+            Figure::Rings(threshold) | Figure::Contours(threshold) | Figure::Lines(threshold) => {
                 std::slice::from_ref(threshold)
             }
             Figure::Band(pair) => pair,
+        }
+    }
+
+    /// Whether the library has it: bench/run looks.
+    pub fn is_in_library(&self) -> bool {
+        match self {
+            Figure::Rings(_) => true,
+            Figure::Contours(_) | Figure::Band(_) => cfg!(feature = "regions"),
+            Figure::Lines(_) => cfg!(feature = "lines"),
         }
     }
 }
@@ -42,7 +57,7 @@ pub enum Against {
 pub type Line = (&'static str, fn() -> Terrain, Figure, Against);
 
 #[rustfmt::skip]
-pub const LINES: [Line; 12] = [
+pub const LINES: [Line; 15] = [
     ("cone-2048", || cone(2_048), Rings(204.8), Crate),
     ("waves-2048", || waves(2_048), Rings(0.1), Crate),
     ("noise-2048", || noise(2_048, 2_048), Rings(0.5), Crate),
@@ -55,6 +70,9 @@ pub const LINES: [Line; 12] = [
     ("bands-1024", || noise(1_024, 1_024), Band([0.5, 0.6]), OurRings),
     ("contours-waves-2048", || waves(2_048), Contours(0.1), Crate),
     ("bands-waves-2048", || waves(2_048), Band([0.1, 0.6]), Crate),
+    ("lines-cone-2048", || cone(2_048), Lines(204.8), Crate),
+    ("lines-waves-2048", || waves(2_048), Lines(0.1), Crate),
+    ("lines-noise-2048", || noise(2_048, 2_048), Lines(0.5), Crate),
 ];
 
 impl Terrain {

@@ -1,14 +1,15 @@
 //! The crate's builds of the same.
 
 use crate::ours::Drawn;
-use crate::terrains::{Figure, Terrain};
+use crate::terrains::{Figure, Terrain, ORIGIN, STEP};
 use contour::ContourBuilder;
 
-/// What the crate gives: rings, or polygons with their interiors.
+/// What the crate gives: rings, polygons with their interiors, or lines.
 pub enum Built {
     Rings(Vec<contour::Ring>),
     Contour(contour::Contour),
     Band(contour::Band),
+    Lines(contour::Line),
 }
 
 pub fn draw(terrain: &Terrain, figure: Figure) -> Built {
@@ -24,18 +25,29 @@ pub fn draw(terrain: &Terrain, figure: Figure) -> Built {
         Figure::Band(pair) => builder
             .isobands(values, &pair)
             .map(|mut all| Built::Band(all.remove(0))),
+        Figure::Lines(threshold) => ContourBuilder::new(dx, dy, true)
+            .x_origin(ORIGIN[0])
+            .y_origin(ORIGIN[1])
+            .x_step(STEP[0])
+            .y_step(STEP[1])
+            .lines(values, &[threshold])
+            .map(|mut all| Built::Lines(all.remove(0))),
     };
     built.expect("the crate draws every grid with all its values")
 }
 
-/// A ring's points as words, x first.
-type Words = Vec<u16>;
+/// A ring's points as words, x first; of a line the bit patterns.
+type Words = Vec<u64>;
 
 impl Built {
-    /// Each ring alone, or each polygon's exterior and interiors, in the order of our records.
+    /// Each ring or line alone, or each polygon's exterior and interiors, in the order of our records.
     pub fn groups(&self) -> Vec<Vec<Words>> {
         let polygons = match self {
             Built::Rings(rings) => return rings.iter().map(|ring| vec![doubled(ring)]).collect(),
+            Built::Lines(lines) => {
+                let lines = lines.geometry().iter();
+                return lines.map(|line| vec![patterns(&line.0)]).collect();
+            }
             Built::Contour(contour) => contour.geometry(),
             Built::Band(band) => band.geometry(),
         };
@@ -53,7 +65,13 @@ impl Built {
 
 fn doubled(ring: &[contour::Pt]) -> Words {
     let words = ring.iter().flat_map(|p| [p.x, p.y]);
-    words.map(|half| (2.0 * half) as u16).collect()
+    words.map(|half| (2.0 * half) as u64).collect()
+}
+
+fn patterns(line: &[contour::Pt]) -> Words {
+    line.iter()
+        .flat_map(|p| [p.x.to_bits(), p.y.to_bits()])
+        .collect()
 }
 
 /// The same groups of our own build: bare rings and polygons by record number, and behind a polygon the holes
@@ -63,11 +81,11 @@ pub fn groups_of(drawn: &Drawn) -> Vec<Vec<Words>> {
     let mut groups = vec![Vec::new(); records.len()];
     let is_hole = |record: &[u32; 4]| record[2] == 1;
     for (number, record) in records.iter().enumerate().filter(|(_, r)| !is_hole(r)) {
-        groups[number].push(drawn.ring(*record).to_vec());
+        groups[number].push(drawn.ring(*record));
     }
     for record in records.iter().filter(|r| is_hole(r)) {
         if let Some(group) = groups.get_mut(record[3] as usize) {
-            group.push(drawn.ring(*record).to_vec());
+            group.push(drawn.ring(*record));
         }
     }
     groups.retain(|group| !group.is_empty());

@@ -1,8 +1,9 @@
-//! What an entry is asked: a terrain, and for a band a list of thresholds. Numbers lent to be read stand
-//! between guards.
+//! What an entry is asked: a terrain, for a band a list of thresholds, for lines how they are drawn. Numbers
+//! lent to be read stand between guards.
 
 use crate::entries::Kind;
 use crate::lent::GUARDS;
+use crate::lines::Pen;
 use crate::rings::{Grid, Pair};
 
 const LONGEST_SIDE: usize = 4_096;
@@ -14,6 +15,7 @@ pub struct Asked<'a> {
     pub kind: Kind,
     pub grid: &'a Grid,
     pub pair: Option<&'a Pair>,
+    pub pen: Option<Pen>,
     pub values: Guarded,
     pub list: Guarded,
 }
@@ -25,6 +27,7 @@ impl<'a> Asked<'a> {
             kind,
             grid,
             pair: None,
+            pen: None,
             values: Guarded::new(&grid.values, f64::INFINITY),
             list: Guarded::new(&[], f64::NEG_INFINITY),
         }
@@ -36,6 +39,14 @@ impl<'a> Asked<'a> {
             pair: Some(pair),
             list: Guarded::new(&pair.list, f64::NEG_INFINITY),
             ..Asked::new(Kind::Bands, grid)
+        }
+    }
+
+    /// Lines at the grid's own threshold.
+    pub fn lines(grid: &'a Grid, pen: Pen) -> Self {
+        Asked {
+            pen: Some(pen),
+            ..Asked::new(Kind::Lines, grid)
         }
     }
 

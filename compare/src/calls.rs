@@ -90,7 +90,7 @@ fn compare_call(
 ) {
     let lends = |table| entry.tables().contains(&table);
     let room = Room(Table::ALL.map(|table| if lends(table) { room.of(table) } else { 0 }));
-    let mut lent = Lent::new(random, room);
+    let mut lent = Lent::new(random, entry.kind, room);
     let mut expected = lent.clone();
     let number = answer(entry, asked, room, drawing);
     if let Some(drawing) = drawing {
@@ -123,9 +123,13 @@ fn described(asked: &Asked) -> String {
     if count > VALUES_SHOWN {
         values.push_str(" and so on");
     }
-    let at = match asked.pair {
-        None => format!("{:?}", grid.threshold),
-        Some(pair) => format!("pair {} of {:?}", pair.k, pair.list),
+    let at = match (asked.pair, asked.pen) {
+        (Some(pair), _) => format!("pair {} of {:?}", pair.k, pair.list),
+        (None, Some(pen)) => format!(
+            "{:?}, smooth {}, placement {:?}",
+            grid.threshold, pen.smooth, pen.placement
+        ),
+        (None, None) => format!("{:?}", grid.threshold),
     };
     format!("{dx} by {dy} at {at}, {count} values{values}")
 }

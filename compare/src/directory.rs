@@ -43,7 +43,7 @@ pub fn directory(asked: &Asked, rings: &[Ring]) -> Vec<u32> {
 
 /// The fates of rings in record order.
 fn fates(asked: &Asked, rings: &[&Ring]) -> Vec<Fate> {
-    if asked.kind == Kind::Rings {
+    if let Kind::Rings | Kind::Lines = asked.kind {
         return vec![[BARE, NOBODY]; rings.len()];
     }
     let fates = read_off(rings, crate_polygons(asked));

@@ -1,17 +1,21 @@
-//! What document 01 and the crate say of a terrain: the counts, the rings as table words, and from these
-//! the room, the answer and the final tables of every call.
+//! What document 01 and the crate say of a terrain: the counts, the rings or lines as table words, and from
+//! these the room, the answer and the final tables of every call.
 
 use crate::asked::Asked;
 use crate::counts::Counts;
 use crate::directory::directory;
 use crate::entries::{Entry, Step};
 use crate::lent::{Lent, Room, Table, PEAK, POINTS, RINGS, SEGMENTS};
+use crate::lines::{crate_lines, Pen};
+use crate::points::Points;
+use crate::rings::{Grid, Ring};
+use std::ops::Range;
 
 pub struct Drawing {
     /// S and H; of a band the larger of its two sets'.
     pub counts: Counts,
-    /// All rings' words, one ring after the other; of a band the lower set's first.
-    points: Vec<u16>,
+    /// All rings' or lines' words, one after the other; of a band the lower set's first.
+    pub points: Points,
     directory: Vec<u32>,
     dx: usize,
 }
@@ -35,7 +39,10 @@ impl Drawing {
         Some(Drawing {
             counts,
             directory: directory(asked, &rings),
-            points: rings.into_iter().flat_map(|ring| ring.words).collect(),
+            points: match asked.pen {
+                Some(pen) => lines(asked.grid, pen, &rings),
+                None => Points::Words(rings.into_iter().flat_map(|ring| ring.words).collect()),
+            },
             dx: asked.grid.dx,
         })
     }
@@ -44,11 +51,11 @@ impl Drawing {
         self.directory.len() / 4
     }
 
-    /// Each record's points, class and owner.
-    pub fn records(&self) -> impl Iterator<Item = (&[u16], u32, u32)> {
+    /// Each record's place among the points' words, class and owner.
+    pub fn records(&self) -> impl Iterator<Item = (Range<usize>, u32, u32)> + '_ {
         self.directory.chunks_exact(4).map(|record| {
             let [first, count] = [record[0], record[1]].map(|number| 2 * number as usize);
-            (&self.points[first..first + count], record[2], record[3])
+            (first..first + count, record[2], record[3])
         })
     }
 
@@ -89,10 +96,19 @@ impl Drawing {
             lent.set(POINTS, (self.points.len() / 2) as u32);
         }
         if entry.step == Step::Build {
-            lent.points()[..self.points.len()].copy_from_slice(&self.points);
+            lent.put_points(&self.points);
             lent.table(Table::Directory)[..self.directory.len()].copy_from_slice(&self.directory);
         }
     }
+}
+
+/// The crate's lines, as long as its rings of the same terrain.
+fn lines(grid: &Grid, pen: Pen, rings: &[Ring]) -> Points {
+    let lines = crate_lines(grid, pen);
+    let lengths = lines.iter().map(|line| line.len() / 2);
+    let as_long = lengths.eq(rings.iter().map(|ring| ring.points.len()));
+    assert!(as_long, "the crate's lines are not as long as its rings");
+    Points::expected(lines.into_iter().flatten())
 }
 
 /// The lowest refusal that applies to a call, or 0.

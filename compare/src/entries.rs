@@ -11,13 +11,14 @@ pub enum Kind {
     Rings,
     Contours,
     Bands,
+    Lines,
 }
 
 impl Kind {
-    /// Its entries. The reports of contours are those of rings.
+    /// Its entries. The reports of contours and lines are those of rings.
     pub fn entries(self) -> impl Iterator<Item = Entry> {
         let steps: &[Step] = match self {
-            Kind::Contours => &[Step::Build],
+            Kind::Contours | Kind::Lines => &[Step::Build],
             _ => &[Step::FirstReport, Step::SecondReport, Step::Build],
         };
         steps.iter().map(move |&step| Entry { kind: self, step })
@@ -56,6 +57,7 @@ impl Entry {
             (Kind::Rings, Step::Build) => "contour_rings",
             (Kind::Contours, Step::Build) => "contour_contours",
             (Kind::Bands, Step::Build) => "contour_isobands",
+            (Kind::Lines, Step::Build) => "contour_lines",
         }
     }
 }
@@ -75,8 +77,7 @@ macro_rules! call {
                 let (list, k) = (&$asked.list, $asked.pair.map_or(0, |pair| pair.k));
                 unsafe { $band(values, count, list.at(), list.count(), k, dx, dy, $($rest),*) }
             }
-            #[cfg(not(feature = "regions"))]
-            _ => unreachable!("no contours and no bands in the library"),
+            _ => unreachable!("no such entry in the library"),
         }
     }};
 }
@@ -111,6 +112,7 @@ pub fn call(entry: Entry, asked: &Asked, lent: &mut Lent) -> u32 {
             lent.at(PEAK),
             lent.at(POINTS)
         ),
+        Step::Build if asked.kind == Kind::Lines => draw_lines(asked, lent),
         Step::Build => call!(
             asked,
             [contour_rings, contour_contours, contour_isobands],
@@ -118,11 +120,50 @@ pub fn call(entry: Entry, asked: &Asked, lent: &mut Lent) -> u32 {
             lines_words,
             lent.at(LINKS),
             links_words,
-            lent.points().as_mut_ptr(),
+            lent.words(),
             points_words,
             lent.at(DIRECTORY),
             directory_words,
             lent.at(RINGS)
         ),
     }
+}
+
+/// `contour_lines`, which is called only where the library has it.
+#[cfg(feature = "lines")]
+fn draw_lines(asked: &Asked, lent: &mut Lent) -> u32 {
+    let Grid {
+        threshold, dx, dy, ..
+    } = *asked.grid;
+    let [lines_words, links_words, points_words, directory_words] = lent.room.0;
+    let pen = asked.pen.expect("lines have a pen");
+    let [x_origin, y_origin, x_step, y_step] = pen.placement;
+    unsafe {
+        contour_lines(
+            asked.values.at(),
+            asked.values.count(),
+            threshold,
+            dx,
+            dy,
+            pen.smooth,
+            x_origin,
+            y_origin,
+            x_step,
+            y_step,
+            lent.at(LINES),
+            lines_words,
+            lent.at(LINKS),
+            links_words,
+            lent.floats(),
+            points_words,
+            lent.at(DIRECTORY),
+            directory_words,
+            lent.at(RINGS),
+        )
+    }
+}
+
+#[cfg(not(feature = "lines"))]
+fn draw_lines(_: &Asked, _: &mut Lent) -> u32 {
+    unreachable!("no lines in the library")
 }

@@ -6,6 +6,7 @@ use crate::calls::compare_rooms;
 use crate::drawing::Drawing;
 use crate::entries::Kind;
 use crate::lent::Room;
+use crate::lines::random_pen;
 use crate::random::Random;
 use crate::rings::{Grid, Pair};
 use crate::tally::Tally;
@@ -85,25 +86,30 @@ pub fn mixed(tally: &mut Tally, random: &mut Random, kind: Kind) {
 }
 
 /// A terrain of so many columns, rows and values, if these are not too many; for a band a list of none to
-/// four thresholds and a place that it often has.
+/// four thresholds and a place that it often has; for lines a random pen.
 fn compare_count(tally: &mut Tally, random: &mut Random, kind: Kind, shape: [usize; 3]) {
     let most = match kind {
-        Kind::Rings => MOST_VALUES,
-        _ => MOST_REGION_VALUES,
+        Kind::Rings | Kind::Lines => MOST_VALUES,
+        Kind::Contours | Kind::Bands => MOST_REGION_VALUES,
     };
     if shape[2] > most {
         return;
     }
     let grid = speckled(random, shape);
-    if kind == Kind::Bands {
-        let list = (0..random.below(5)).map(|_| random.pick(&[0.0, 1.0, 2.0, f64::NAN]));
-        let list = list.collect();
-        let k = random
-            .pick(&PLACES[..])
-            .min(random.pick(&[1, 2, usize::MAX]));
-        compare_grid(tally, random, &Asked::band(&grid, &Pair { list, k }));
-    } else {
-        compare_grid(tally, random, &Asked::new(kind, &grid));
+    match kind {
+        Kind::Rings | Kind::Contours => compare_grid(tally, random, &Asked::new(kind, &grid)),
+        Kind::Lines => {
+            let pen = random_pen(random);
+            compare_grid(tally, random, &Asked::lines(&grid, pen));
+        }
+        Kind::Bands => {
+            let list = (0..random.below(5)).map(|_| random.pick(&[0.0, 1.0, 2.0, f64::NAN]));
+            let list = list.collect();
+            let k = random
+                .pick(&PLACES[..])
+                .min(random.pick(&[1, 2, usize::MAX]));
+            compare_grid(tally, random, &Asked::band(&grid, &Pair { list, k }));
+        }
     }
 }
 

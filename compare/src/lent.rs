@@ -1,6 +1,8 @@
 //! What a call is lent to write into. All of it stands in one sheet of words, table beside table, with guard
 //! words before, between and behind them, and is compared whole; the points stand in another.
 
+use crate::entries::Kind;
+use crate::points::Points;
 use crate::random::Random;
 use std::ops::Range;
 
@@ -52,21 +54,21 @@ pub const POINTS: usize = 6;
 #[derive(Clone)]
 pub struct Lent {
     words: Vec<u32>,
-    points: Vec<u16>,
+    points: Points,
     pub room: Room,
 }
 
 impl Lent {
-    /// Tables of this room, with zeros, ones, small numbers or any numbers in them.
-    pub fn new(random: &mut Random, room: Room) -> Self {
+    /// Tables of this room for a kind, with zeros, ones, small numbers or any numbers in them.
+    pub fn new(random: &mut Random, kind: Kind, room: Room) -> Self {
         let end = places(room)[POINTS].end + GUARDS;
         let mut lent = Lent {
             words: vec![GUARD; end],
-            points: vec![GUARD as u16; room.of(Table::Points) + 2 * GUARDS],
+            points: Points::guards(kind, room.of(Table::Points) + 2 * GUARDS),
             room,
         };
-        let kind = random.below(4);
-        let mut filler = || match kind {
+        let content = random.below(4);
+        let mut filler = || match content {
             0 => 0,
             1 => u64::MAX,
             2 => random.next() % 9,
@@ -75,7 +77,8 @@ impl Lent {
         for table in [Table::Lines, Table::Links, Table::Directory] {
             lent.table(table).fill_with(|| filler() as u32);
         }
-        lent.points().fill_with(|| filler() as u16);
+        let points = GUARDS..GUARDS + room.of(Table::Points);
+        lent.points.fill(points, filler);
         for output in [SEGMENTS, RINGS, PEAK, POINTS] {
             lent.set(output, UNSET);
         }
@@ -88,14 +91,25 @@ impl Lent {
             Table::Lines => LINES,
             Table::Links => LINKS,
             Table::Directory => DIRECTORY,
-            Table::Points => unreachable!("the points are 16-bit words"),
+            Table::Points => unreachable!("the points have a sheet of their own"),
         };
         &mut self.words[places(self.room)[place].clone()]
     }
 
-    pub fn points(&mut self) -> &mut [u16] {
-        let end = self.points.len() - GUARDS;
-        &mut self.points[GUARDS..end]
+    /// Puts points into the table.
+    pub fn put_points(&mut self, points: &Points) {
+        self.points.put(GUARDS, points);
+    }
+
+    /// Where the points stand.
+    pub fn words(&mut self) -> *mut u16 {
+        self.points.words_at(GUARDS)
+    }
+
+    /// Where the points of lines stand.
+    #[cfg(feature = "lines")]
+    pub fn floats(&mut self) -> *mut f64 {
+        self.points.floats_at(GUARDS)
     }
 
     /// Sets one of the four outputs.
@@ -118,16 +132,14 @@ impl Lent {
             let place = named(k, &places(self.room));
             return Some(format!("{place}: expected {wanted}, got {got}"));
         }
-        let word = |k: &usize| self.points[*k] != expected.points[*k];
-        let k = (0..self.points.len()).find(word)?;
-        let (wanted, got) = (expected.points[k], self.points[k]);
+        let (k, difference) = self.points.difference(&expected.points)?;
         let place = match k.checked_sub(GUARDS) {
             Some(word) if word < self.room.of(Table::Points) => {
                 format!("word {word} of the points")
             }
             _ => "a guard word beside the points".to_string(),
         };
-        Some(format!("{place}: expected {wanted}, got {got}"))
+        Some(format!("{place}: {difference}"))
     }
 }
 

@@ -14,9 +14,13 @@ mod exact;
 mod ffi;
 mod grid_refusals;
 mod lent;
+mod line_answers;
+mod line_checks;
+mod lines;
 mod lists;
 mod nested;
 mod oracle;
+mod points;
 mod printed;
 mod random;
 mod refusals;
@@ -24,6 +28,7 @@ mod region_answers;
 mod region_checks;
 mod ring_checks;
 mod rings;
+mod shapes;
 mod tally;
 
 /// The functions of our library, declared once for all who call it from Rust.
@@ -44,10 +49,8 @@ const SEED: u64 = 0x636F_6E74_6F75_7273;
 
 /// What the command line asks for.
 enum Task {
-    /// Write the crate's answers to this file.
-    Answers(String),
-    /// Write the crate's contours and bands to this file.
-    RegionAnswers(String),
+    /// Write the crate's answers, as one of the texts, to this file.
+    Answers(fn() -> String, String),
     /// Compare in so many rounds, and compare what programs printed.
     Compare(u64, Vec<Printed>),
 }
@@ -61,12 +64,8 @@ fn main() -> ExitCode {
             eprintln!("{fault}");
             ExitCode::from(2)
         }
-        Ok(Task::Answers(file)) => {
-            std::fs::write(&file, answers::text()).expect("a file to write the answers to");
-            ExitCode::SUCCESS
-        }
-        Ok(Task::RegionAnswers(file)) => {
-            std::fs::write(&file, region_answers::text()).expect("a file to write the answers to");
+        Ok(Task::Answers(text, file)) => {
+            std::fs::write(&file, text()).expect("a file to write the answers to");
             ExitCode::SUCCESS
         }
         Ok(Task::Compare(rounds, programs)) => {
@@ -74,6 +73,7 @@ fn main() -> ExitCode {
             compare_area_and_contains(&mut tally, rounds);
             compare_rings(&mut tally, rounds);
             compare_regions(&mut tally, rounds);
+            compare_lines(&mut tally, rounds);
             compare_printed(&mut tally, &programs);
             ExitCode::from(if tally.close() { 0 } else { 1 })
         }
@@ -84,14 +84,9 @@ fn task(mut words: impl Iterator<Item = String>) -> Result<Task, &'static str> {
     let (mut rounds, mut programs) = (1, Vec::new());
     while let Some(word) = words.next() {
         match word.as_str() {
-            "--answers" => {
-                let file = words.next().ok_or("--answers takes a file")?;
-                return Ok(Task::Answers(file));
-            }
-            "--region-answers" => {
-                let file = words.next().ok_or("--region-answers takes a file")?;
-                return Ok(Task::RegionAnswers(file));
-            }
+            "--answers" => return answers_task(answers::text, words.next()),
+            "--region-answers" => return answers_task(region_answers::text, words.next()),
+            "--line-answers" => return answers_task(line_answers::text, words.next()),
             "--printed" => {
                 let three: Vec<String> = words.by_ref().take(3).collect();
                 let three = three.try_into();
@@ -106,6 +101,11 @@ fn task(mut words: impl Iterator<Item = String>) -> Result<Task, &'static str> {
         }
     }
     Ok(Task::Compare(rounds, programs))
+}
+
+fn answers_task(text: fn() -> String, file: Option<String>) -> Result<Task, &'static str> {
+    let file = file.ok_or("the answers take a file")?;
+    Ok(Task::Answers(text, file))
 }
 
 fn compare_area_and_contains(tally: &mut Tally, rounds: u64) {
@@ -211,6 +211,42 @@ fn compare_regions(tally: &mut Tally, rounds: u64) {
     tally.note(&format!(
         "the contours and bands of {grids} grids in every kind of room"
     ));
+}
+
+fn compare_lines(tally: &mut Tally, rounds: u64) {
+    if !cfg!(feature = "lines") {
+        tally.note("lines are not in the library: not compared");
+        return;
+    }
+    let random = &mut Random::new(SEED + 3);
+    let mut grids = 0;
+    tally.part("lines, all two-valued grids of up to 12 samples", |t| {
+        grids += line_checks::all_small_grids(t, random)
+    });
+    tally.part("lines, every smoothing and placement", |t| {
+        grids += line_checks::every_pen(t, random)
+    });
+    tally.part("lines, refusals 1 and 2", |t| {
+        grid_refusals::listed(t, random, Kind::Lines)
+    });
+    for _ in 0..rounds {
+        tally.part("lines, small grids", |t| {
+            grids += line_checks::random_small_grids(t, random)
+        });
+        tally.part("lines, every shape up to 64 by 64", |t| {
+            grids += line_checks::every_shape(t, random)
+        });
+        tally.part("lines, thin grids", |t| {
+            grids += line_checks::thin_grids(t, random)
+        });
+        tally.part("lines, several refusals at once", |t| {
+            grid_refusals::mixed(t, random, Kind::Lines)
+        });
+    }
+    tally.part("lines, 4,096 by 4,096", |t| {
+        line_checks::largest_grid(t, random)
+    });
+    tally.note(&format!("the lines of {grids} grids in every kind of room"));
 }
 
 /// What the examples printed, if compare/run had a library to run them with.

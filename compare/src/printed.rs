@@ -1,14 +1,17 @@
 //! What the examples in C and those of the Rust binding have to print. `rings`: rows 6 to 8 of document 01's
 //! dozen, areas, containment and a refusal. `regions`: a contour and two bands as polygons and holes, and a
-//! refusal. The crate gives what the rows leave out.
+//! refusal. `lines`: the lines of row 12, smoothed, and those of a small terrain in three ways, and a refusal.
+//! The crate gives what the rows leave out.
 
 use crate::asked::Asked;
 use crate::drawing::Drawing;
 use crate::entries::Kind;
 use crate::ffi::Answer;
+use crate::lines::Pen;
 use crate::oracle;
 use crate::rings::{Grid, Pair};
 use crate::tally::{listed, Tally};
+use std::ops::Range;
 
 /// Rows 6 and 7.
 const RING_0: &str = "(3,4)(2,3)(3,2)(4,3)(3,4)";
@@ -20,11 +23,17 @@ const PLATE: [[u8; 7]; 3] = [
     [1, 1, 1, 1, 1, 0, 0],
 ];
 
+/// Row 12: where its vertex (1, 0.5) moves to.
+const MOVED: &str = "(0.75,0.5)";
+/// A hill with a pit.
+const HILL: [[u8; 4]; 3] = [[4, 4, 2, 0], [4, 0, 4, 2], [2, 4, 2, 0]];
+
 /// The text of an example.
 fn expected(example: &str) -> String {
     match example {
         "rings" => rings(),
         "regions" => regions(),
+        "lines" => lines(),
         other => panic!("no example {other}"),
     }
 }
@@ -65,16 +74,44 @@ fn regions() -> String {
 /// Each polygon with its holes, then the dropped holes.
 fn polygons(asked: &Asked) -> String {
     let drawing = Drawing::of(asked).expect("a question that passes");
+    let listed = |what: &str, ring: &Range<usize>| {
+        format!("{what} {}\n", drawing.points.listed(ring.clone()))
+    };
     let records: Vec<_> = drawing.records().collect();
-    let mut lines = Vec::new();
+    let mut text = String::new();
     for (number, (polygon, _, _)) in records.iter().enumerate().filter(|(_, r)| r.1 == 0) {
-        lines.push(format!("polygon {}", listed(polygon)));
+        text.push_str(&listed("polygon", polygon));
         let holes = records.iter().filter(|r| (r.1, r.2) == (1, number as u32));
-        lines.extend(holes.map(|(hole, _, _)| format!("  hole {}", listed(hole))));
+        text.extend(holes.map(|(hole, _, _)| listed("  hole", hole)));
     }
     let dropped = records.iter().filter(|r| r.2 == u32::MAX);
-    lines.extend(dropped.map(|(hole, _, _)| format!("dropped {}", listed(hole))));
-    lines.iter().map(|line| format!("{line}\n")).collect()
+    text.extend(dropped.map(|(hole, _, _)| listed("dropped", hole)));
+    text
+}
+
+/// A title and one line a line for each terrain and pen.
+fn lines() -> String {
+    let row_12 = Grid::new(2, 1, 1.0, |x, _| 4.0 * x as f64);
+    let hill = Grid::new(4, 3, 1.0, |x, y| HILL[y][x].into());
+    let (unplaced, placed) = ([0.0, 0.0, 1.0, 1.0], [10.0, 20.0, 0.5, 0.25]);
+    let mut text = String::new();
+    for (title, grid, smooth, placement) in [
+        ("two samples, smoothed", &row_12, 1, unplaced),
+        ("as drawn", &hill, 0, unplaced),
+        ("smoothed", &hill, 1, unplaced),
+        ("smoothed and placed", &hill, 1, placed),
+    ] {
+        let asked = Asked::lines(grid, Pen { smooth, placement });
+        let drawing = Drawing::of(&asked).expect("a question that passes");
+        text.push_str(&format!("{title}\n"));
+        for (line, _, _) in drawing.records() {
+            text.push_str(&format!("line {}\n", drawing.points.listed(line)));
+        }
+    }
+    let moved = text.lines().nth(1).map(|line| line.contains(MOVED));
+    assert!(moved == Some(true), "row 12");
+    text.push_str("one value fewer: refusal 2\n");
+    text
 }
 
 /// Compares what a program printed, line by line.

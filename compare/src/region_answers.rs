@@ -157,7 +157,7 @@ impl Terrain {
 }
 
 /// S, H, R, the number of points, and the records.
-fn append_set(line: &mut String, counts: Counts, asked: &Asked, rings: &[Ring]) {
+pub fn append_set(line: &mut String, counts: Counts, asked: &Asked, rings: &[Ring]) {
     let points = rings.iter().map(|ring| ring.points.len()).sum();
     append(line, [counts.segments, counts.peak, rings.len(), points]);
     let words = directory(asked, rings);
@@ -165,7 +165,7 @@ fn append_set(line: &mut String, counts: Counts, asked: &Asked, rings: &[Ring]) 
 }
 
 /// Numbers, each behind a space.
-fn append<N: std::fmt::Display>(line: &mut String, numbers: impl IntoIterator<Item = N>) {
+pub fn append<N: std::fmt::Display>(line: &mut String, numbers: impl IntoIterator<Item = N>) {
     for number in numbers {
         write!(line, " {number}").expect("a string takes every number");
     }

@@ -8,14 +8,12 @@ use crate::nested::{
 };
 use crate::random::Random;
 use crate::rings::{flat_grid, random_grid, random_pair, small_grids, Grid, Pair};
+use crate::shapes::{self, LONGEST_SIDE};
 use crate::tally::Tally;
 use std::f64::{INFINITY, NAN, NEG_INFINITY};
 
-/// How many small grids of random shape a round draws, and their longest side.
+/// How many small grids of random shape a round draws.
 const SMALL_GRIDS: usize = 30_000;
-const SMALL_SIDE: usize = 9;
-/// The longest side of a terrain.
-const LONGEST_SIDE: usize = 4_096;
 /// The sides of noise.
 const NOISE_SIDES: [usize; 2] = [64, 100];
 const NOISE_GRIDS: usize = 40;
@@ -72,20 +70,16 @@ pub fn three_valued_grids(tally: &mut Tally, random: &mut Random) -> u64 {
 
 /// Random grids of sides up to nine, with lists of two to four thresholds.
 pub fn random_small_grids(tally: &mut Tally, random: &mut Random) -> u64 {
-    let mut grids = 0;
-    for _ in 0..SMALL_GRIDS {
-        let [dx, dy] = [0; 2].map(|_| random.between(1, SMALL_SIDE));
-        grids += compare_random(tally, random, dx, dy);
-    }
-    grids
+    shapes::small(random, SMALL_GRIDS, |random, dx, dy| {
+        compare_random(tally, random, dx, dy)
+    })
 }
 
 /// A random grid of every shape up to 32 by 32.
 pub fn every_shape(tally: &mut Tally, random: &mut Random) -> u64 {
-    let shapes = (1..=32).flat_map(|dx| (1..=32).map(move |dy| (dx, dy)));
-    shapes
-        .map(|(dx, dy)| compare_random(tally, random, dx, dy))
-        .sum()
+    shapes::every(random, 32, |random, dx, dy| {
+        compare_random(tally, random, dx, dy)
+    })
 }
 
 /// Sides of one to four by the longest side, both ways, flat over long stretches.

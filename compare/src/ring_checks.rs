@@ -7,13 +7,11 @@ use crate::drawing::Drawing;
 use crate::entries::Kind;
 use crate::random::Random;
 use crate::rings::{flat_grid, random_grid, small_grids, Grid};
+use crate::shapes::{self, LONGEST_SIDE};
 use crate::tally::Tally;
 
-/// How many small grids of random shape a round draws, and their longest side.
-const SMALL_GRIDS: u64 = 165_000;
-const SMALL_SIDE: usize = 9;
-/// The longest side of a terrain.
-const LONGEST_SIDE: usize = 4_096;
+/// How many small grids of random shape a round draws.
+const SMALL_GRIDS: usize = 165_000;
 
 /// Every two-valued grid of up to twelve samples. The driver's own count of H is looked up here too. Like
 /// the next three it returns how many grids there were.
@@ -30,32 +28,23 @@ pub fn all_small_grids(tally: &mut Tally, random: &mut Random) -> u64 {
 
 /// Random grids of sides up to nine.
 pub fn random_small_grids(tally: &mut Tally, random: &mut Random) -> u64 {
-    for _ in 0..SMALL_GRIDS {
-        let [dx, dy] = [0; 2].map(|_| random.between(1, SMALL_SIDE));
-        let grid = random_grid(random, dx, dy);
-        compare_grid(tally, random, &grid);
-    }
-    SMALL_GRIDS
+    shapes::small(random, SMALL_GRIDS, |random, dx, dy| {
+        compare_random(tally, random, dx, dy)
+    })
 }
 
 /// A random grid of every shape up to 64 by 64.
 pub fn every_shape(tally: &mut Tally, random: &mut Random) -> u64 {
-    let shapes = (1..=64).flat_map(|dx| (1..=64).map(move |dy| (dx, dy)));
-    shapes
-        .map(|shape| compare_random(tally, random, shape))
-        .sum()
+    shapes::every(random, 64, |random, dx, dy| {
+        compare_random(tally, random, dx, dy)
+    })
 }
 
 /// Sides of one to four by up to the longest side, both ways.
 pub fn thin_grids(tally: &mut Tally, random: &mut Random) -> u64 {
-    let mut grids = 0;
-    for thin in (1..=4).flat_map(|thin| [thin; 4]) {
-        for long in [LONGEST_SIDE, random.between(65, LONGEST_SIDE)] {
-            grids += compare_random(tally, random, (thin, long));
-            grids += compare_random(tally, random, (long, thin));
-        }
-    }
-    grids
+    shapes::thin(random, |random, dx, dy| {
+        compare_random(tally, random, dx, dy)
+    })
 }
 
 /// Columns about whole words of 64 samples, and rows about tiles of 66: a random grid and a flat one of each
@@ -64,7 +53,7 @@ pub fn words_and_tiles(tally: &mut Tally, random: &mut Random) -> u64 {
     let mut grids = 0;
     for dx in [62, 63, 64, 65, 66, 127, 128, 129, 191, 192, 193, 256] {
         for dy in [1, 2, 65, 66, 67, 131, 132, 133, 198] {
-            grids += compare_random(tally, random, (dx, dy));
+            grids += compare_random(tally, random, dx, dy);
             let flat = flat_grid(random, dx, dy);
             compare_grid(tally, random, &flat);
             grids += 1;
@@ -74,21 +63,25 @@ pub fn words_and_tiles(tally: &mut Tally, random: &mut Random) -> u64 {
 }
 
 /// A random grid of this shape; returns 1.
-fn compare_random(tally: &mut Tally, random: &mut Random, (dx, dy): (usize, usize)) -> u64 {
+fn compare_random(tally: &mut Tally, random: &mut Random, dx: usize, dy: usize) -> u64 {
     let grid = random_grid(random, dx, dy);
     compare_grid(tally, random, &grid);
     1
 }
 
-/// Both sides the longest, in exact room: a frame whose upper and lower side are dotted, so that rings
-/// reach every corner and the peak is large.
+/// Both sides the longest, in exact room.
 pub fn largest_grid(tally: &mut Tally, random: &mut Random) {
+    compare_exact(tally, random, &Asked::new(Kind::Rings, &largest()));
+}
+
+/// Both sides the longest: a frame whose upper and lower side are dotted, so that rings reach every corner and
+/// the peak is large.
+pub fn largest() -> Grid {
     let last = LONGEST_SIDE - 1;
-    let grid = Grid::new(LONGEST_SIDE, LONGEST_SIDE, 1.0, |x, y| {
+    Grid::new(LONGEST_SIDE, LONGEST_SIDE, 1.0, |x, y| {
         let dotted = (y == 0 || y == last) && x % 2 == 0;
         f64::from(u8::from(dotted || x == 0 || x == last))
-    });
-    compare_exact(tally, random, &Asked::new(Kind::Rings, &grid));
+    })
 }
 
 /// Every entry in every kind of room.

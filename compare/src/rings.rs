@@ -115,7 +115,7 @@ pub fn flat_grid(random: &mut Random, dx: usize, dy: usize) -> Grid {
 }
 
 /// A terrain of these values with a threshold to draw it at.
-fn at_random_threshold(random: &mut Random, dx: usize, dy: usize, values: Vec<f64>) -> Grid {
+pub fn at_random_threshold(random: &mut Random, dx: usize, dy: usize, values: Vec<f64>) -> Grid {
     let threshold = random_threshold(random, &values);
     Grid {
         dx,

@@ -103,6 +103,27 @@ extern "C" {
         directory_words: usize,
         rings: *mut u32,
     ) -> u32;
+    pub fn contour_lines(
+        values: *const f64,
+        count: usize,
+        threshold: f64,
+        dx: usize,
+        dy: usize,
+        smooth: u32,
+        x_origin: f64,
+        y_origin: f64,
+        x_step: f64,
+        y_step: f64,
+        lines: *mut u32,
+        lines_words: usize,
+        links: *mut u32,
+        links_words: usize,
+        points: *mut f64,
+        points_words: usize,
+        directory: *mut u32,
+        directory_words: usize,
+        rings: *mut u32,
+    ) -> u32;
     pub fn contour_area(ring: *const u16, ring_words: usize, area: *mut i64) -> u32;
     pub fn contour_contains(
         outer: *const u16,

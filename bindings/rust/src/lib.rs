@@ -1,14 +1,17 @@
-//! Rings of a terrain, their areas and containment, and the polygons with holes that they make, drawn by the
-//! proved library libcontour_c.a. The tables that it is lent are sized by its reports and given up again;
-//! rings come out as plain vectors.
+//! Rings of a terrain, their areas and containment, the polygons with holes that they make, and smoothed and
+//! placed lines, drawn by the proved library libcontour_c.a. The tables that it is lent are sized by its
+//! reports and given up again; rings come out as plain vectors.
 //!
-//! Coordinates are doubled whole numbers: sample (column, row) stands at (2·column + 1, 2·row + 1).
+//! Coordinates are doubled whole numbers: sample (column, row) stands at (2·column + 1, 2·row + 1). Those of
+//! lines are floats.
 
 mod ffi;
+mod lines;
 mod refusal;
 mod regions;
 mod tables;
 
+pub use lines::{lines, Placement};
 pub use refusal::Refusal;
 pub use regions::{contours, isobands, Polygon, Regions};
 

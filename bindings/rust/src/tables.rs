@@ -44,9 +44,17 @@ macro_rules! call {
     }};
 }
 
+/// The work tables, and how many points and rings the outputs have.
+pub struct Lent {
+    pub lines: Vec<u32>,
+    pub links: Vec<u32>,
+    pub points: usize,
+    pub rings: usize,
+}
+
 impl Terrain<'_> {
-    /// Everything drawn, by record number. The first report sizes the work tables, the second the outputs.
-    pub fn records(&self) -> Result<Vec<Record>, Refusal> {
+    /// The work tables by the first report, the sizes of the outputs by the second.
+    pub fn lend(&self) -> Result<Lent, Refusal> {
         let (mut segments, mut rings, mut peak, mut points) = (0, 0, 0, 0);
         call!(
             self,
@@ -76,33 +84,45 @@ impl Terrain<'_> {
             &mut peak,
             &mut points
         )?;
-        let mut words = vec![0; 2 * points as usize];
-        let mut directory = vec![0; 4 * rings as usize];
+        Ok(Lent {
+            lines,
+            links,
+            points: points as usize,
+            rings: rings as usize,
+        })
+    }
+
+    /// Everything drawn, by record number.
+    pub fn records(&self) -> Result<Vec<Record>, Refusal> {
+        let mut lent = self.lend()?;
+        let mut words = vec![0; 2 * lent.points];
+        let mut directory = vec![0; 4 * lent.rings];
+        let mut rings = 0;
         call!(
             self,
             [contour_rings, contour_contours, contour_isobands],
-            lines.as_mut_ptr(),
-            lines.len(),
-            links.as_mut_ptr(),
-            links.len(),
+            lent.lines.as_mut_ptr(),
+            lent.lines.len(),
+            lent.links.as_mut_ptr(),
+            lent.links.len(),
             words.as_mut_ptr(),
             words.len(),
             directory.as_mut_ptr(),
             directory.len(),
             &mut rings
         )?;
-        let records = directory.chunks_exact(4);
-        Ok(records.map(|record| read(record, &words)).collect())
+        let records = directory.chunks_exact(4).map(|record| Record {
+            ring: points_of(record, &words),
+            class: record[2],
+            owner: record[3],
+        });
+        Ok(records.collect())
     }
 }
 
-/// A record's four words: first point, point count, class and owner.
-fn read(record: &[u32], words: &[u16]) -> Record {
+/// The points of a record, whose first two words are its first point and its number of points.
+pub fn points_of<W: Copy>(record: &[u32], words: &[W]) -> Vec<(W, W)> {
     let [first, count] = [record[0] as usize, record[1] as usize];
     let words = &words[2 * first..2 * (first + count)];
-    Record {
-        ring: words.chunks_exact(2).map(|p| (p[0], p[1])).collect(),
-        class: record[2],
-        owner: record[3],
-    }
+    words.chunks_exact(2).map(|p| (p[0], p[1])).collect()
 }

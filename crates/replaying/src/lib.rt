@@ -5,6 +5,7 @@ use isoringbuilder::Built;
 use isoringbuilder::SecondReport;
 use scan::FirstReport;
 use std::num::wrapping_add_usize;
+ghost use Prim.Native.Nat.{_<_};
 
 // How much text is read, and how many numbers it may hold.
 pub const TEXT: usize = 1048576;
@@ -32,6 +33,16 @@ pub const LONG_POINTS: usize = 16392;
 pub const SOIL: u32 = 65535;
 
 pub const SOILED: u16 = 65535;
+
+pub const FLOAT_SOIL: f64 = -6.5535e77;
+
+// The words that a generous room has beside those that are needed.
+const SPARE: usize = 3;
+
+// A float's pattern is a NaN's where it is above that of infinity, the sign left out.
+const SIGN: u64 = 9223372036854775808;
+
+const INFINITE: u64 = 9218868437227405312;
 
 // A call's code is 0, the number of its refusal, or this one where it passed with other counts than expected.
 const MISCOUNTED: u32 = 99;
@@ -83,6 +94,10 @@ fn widened(x: u16) -> u32 {
     x as u32
 }
 
+fn float(values: &[f64], i: usize) -> f64 {
+    if i < values.len() { values[i] } else { 0.0 }
+}
+
 fn byte(text: &[u8], i: usize) -> u8 {
     if i < text.len() { text[i] } else { 0 }
 }
@@ -94,10 +109,52 @@ fn put(table: &mut [u32], i: usize, value: u32) {
     }
 }
 
-// Stores a sample. Past the end nothing is stored.
-pub fn put_sample(values: &mut [f64], i: usize, value: u32) {
+// Stores a float. Past the end nothing is stored.
+pub fn put_float(values: &mut [f64], i: usize, value: f64) {
     if i < values.len() {
-        values[i] = value as f64;
+        values[i] = value;
+    }
+}
+
+// Stores a whole number as a sample. Past the end nothing is stored.
+pub fn put_sample(values: &mut [f64], i: usize, value: u32) {
+    put_float(values, i, value as f64);
+}
+
+// A part of 16 bits of a pattern.
+fn piece(table: &[u32], i: usize) -> u64
+    ensures { λ r. ⌜ r < 65536 ⌝ }
+{
+    (word(table, i) % 65536) as u64
+}
+
+// The pattern that a table begins with: four parts of 16 bits, the highest first.
+fn pattern(table: &[u32]) -> u64 {
+    let high = piece(table, 0) * 65536 + piece(table, 1);
+    let low = piece(table, 2) * 65536 + piece(table, 3);
+    high * 4294967296 + low
+}
+
+// The float whose pattern a table begins with.
+pub fn listed_float(table: &[u32]) -> f64 {
+    float_of(pattern(table))
+}
+
+// The float of a pattern. All patterns of NaN give one NaN.
+fn float_of(pattern: u64) -> f64 {
+    if INFINITE < pattern % SIGN {
+        0.0 / 0.0
+    } else {
+        f64::from_bits(pattern)
+    }
+}
+
+// Whether a float has this pattern. A NaN has every pattern of NaN.
+fn has_pattern(x: f64, pattern: u64) -> bool {
+    if x == x {
+        f64::to_bits(x) == pattern
+    } else {
+        INFINITE < pattern % SIGN
     }
 }
 
@@ -115,6 +172,11 @@ pub fn part(table: &[u32], from: usize, to: usize) -> &[u32] {
     }
 }
 
+// A table behind n patterns of floats.
+pub fn after_floats(table: &[u32], n: usize) -> &[u32] {
+    after(after(after(after(table, n), n), n), n)
+}
+
 // The words of the points from word `from` to before word `to`.
 pub fn points_part(points: &[u16], from: usize, to: usize) -> &[u16] {
     if from <= points.len() && from <= to && to <= points.len() {
@@ -124,13 +186,18 @@ pub fn points_part(points: &[u16], from: usize, to: usize) -> &[u16] {
     }
 }
 
-// The first n samples.
-pub fn samples(values: &[f64], n: usize) -> &[f64] {
-    if n <= values.len() {
-        &values[0..n]
+// The floats from number `from` to before number `to`.
+pub fn floats_part(values: &[f64], from: usize, to: usize) -> &[f64] {
+    if from <= values.len() && from <= to && to <= values.len() {
+        &values[from..to]
     } else {
         values
     }
+}
+
+// The first n samples.
+pub fn samples(values: &[f64], n: usize) -> &[f64] {
+    floats_part(values, 0, n)
 }
 
 // The first n words of a table, to be lent.
@@ -148,6 +215,15 @@ pub fn points_lent(points: &mut [u16], n: usize) -> &mut [u16] {
         &mut points[0..n]
     } else {
         points
+    }
+}
+
+// The first n floats, to be lent.
+pub fn floats_lent(values: &mut [f64], n: usize) -> &mut [f64] {
+    if n <= values.len() {
+        &mut values[0..n]
+    } else {
+        values
     }
 }
 
@@ -176,11 +252,46 @@ pub fn same_points(points: &[u16], wanted: &[u32], otherwise: u32) -> bool {
     true
 }
 
-// Whether the work tables that were lent are as a call with this code leaves them: untouched after refusals 1 to 6, and else zero.
-pub fn work_holds(lines: &[u32], links: &[u32], code: u32) -> bool {
+// Whether a float is the one that a table begins with, or another where the table is at its end.
+fn same_float(x: f64, wanted: &[u32], otherwise: f64) -> bool {
+    if 4 <= wanted.len() {
+        has_pattern(x, pattern(wanted))
+    } else {
+        x == otherwise
+    }
+}
+
+// Whether floats have the patterns wanted, and are all one float where no more are listed.
+pub fn same_floats(values: &[f64], wanted: &[u32], otherwise: f64) -> bool {
+    let mut rest = wanted;
+    for i in 0..values.len() {
+        if !same_float(float(values, i), rest, otherwise) {
+            return false;
+        }
+        let next = after(rest, 4);
+        rest = next;
+    }
+    true
+}
+
+// Whether a work table of which a call needs this many words is as one with this code leaves it: untouched after refusals 1 to 6, and else zero in these
+// words.
+fn table_holds(table: &[u32], needed: usize, code: u32) -> bool {
     let left = if code == 0 || 7 <= code { 0 } else { SOIL };
     let none = [0u32; 0];
-    same_words(lines, &none, left) && same_words(links, &none, left)
+    same_words(part(table, 0, needed), &none, left) && same_words(after(table, needed), &none, SOIL)
+}
+
+// Whether the work tables that were lent are as a call with this code leaves them where it needs all their words.
+pub fn work_holds(lines: &[u32], links: &[u32], code: u32) -> bool {
+    table_holds(lines, lines.len(), code) && table_holds(links, links.len(), code)
+}
+
+// Whether the work tables that were lent are as a call with this code leaves them where it needs this room.
+pub fn work_holds_in(lines: &[u32], links: &[u32], room: Room, code: u32) -> bool {
+    let open = room.open;
+    let linked = room.linked;
+    table_holds(lines, open, code) && table_holds(links, linked, code)
 }
 
 // Whether the points and the directory that were lent are as a refused call leaves them.
@@ -269,6 +380,21 @@ pub fn refused_case(dx: usize, dy: usize, samples: usize) -> Case {
     }
 }
 
+// S, H, R and the number of points, which a set begins with.
+pub fn counts_of(set: &[u32]) -> Counts {
+    Counts {
+        segments: word(set, 0),
+        peak: word(set, 1),
+        rings: word(set, 2),
+        points: word(set, 3),
+    }
+}
+
+// The numbers after the records of a set.
+pub fn after_records(set: &[u32]) -> &[u32] {
+    after(set, 4 + 4 * (word(set, 2) as usize))
+}
+
 // The counts of the longest grid of one row or one column, all above.
 pub fn longest_counts() -> Counts {
     Counts {
@@ -295,6 +421,16 @@ pub fn short_room(room: Room, number: u32) -> Room {
         linked: one_less_if(number == 6, room.linked),
         worded: one_less_if(number == 7, room.worded),
         recorded: one_less_if(number == 8, room.recorded),
+    }
+}
+
+// The room with every table some words longer.
+pub fn generous_room(room: Room) -> Room {
+    Room {
+        open: wrapping_add_usize(room.open, SPARE),
+        linked: wrapping_add_usize(room.linked, SPARE),
+        worded: wrapping_add_usize(room.worded, SPARE),
+        recorded: wrapping_add_usize(room.recorded, SPARE),
     }
 }
 
