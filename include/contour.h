@@ -1,6 +1,6 @@
 /*
- * Rings of a terrain of samples, their areas and containment, the polygons with holes that they make, and
- * smoothed and placed lines: the C interface of libcontour_c.a.
+ * Rings of a terrain of samples, their areas and containment, the polygons with holes that they make, these as
+ * GeoJSON, and smoothed and placed lines: the C interface of libcontour_c.a.
  *
  * The library allocates nothing and keeps nothing between calls. The caller lends every table. A call
  * returns 0 and has done its work, or returns the number of a refusal. Every input has an answer: each
@@ -49,6 +49,8 @@
  *      6   the link table is short
  *      7   the points are short
  *      8   the directory is short
+ *      9   a ring set is faulty, as contour_check says below
+ *     10   the room for the text is short
  *     11   a ring has an odd number of words, no point, more than 67,108,864 points or a coordinate above
  *          8,192
  *
@@ -188,6 +190,45 @@ uint32_t contour_area(const uint16_t *ring, size_t ring_words, int64_t *area);
  */
 uint32_t contour_contains(const uint16_t *outer, size_t outer_words, const uint16_t *tested, size_t tested_words,
                           int32_t *answer);
+
+/*
+ * Looks at a ring set: that of contour_contours or contour_isobands, or one made by hand. It is the points and
+ * the first rings records of the directory; words behind these records do not matter, nor do points of no
+ * record.
+ *
+ * It is faulty when the directory has fewer than 4 * rings words, or when one of these records has points that
+ * are not all there, fewer than 4 points or more than 67,108,864, a coordinate above 8,192, a last point that
+ * is not the first, a class other than 0 and 1, as a polygon another owner than itself, or as a hole an owner
+ * that is neither the number of a polygon nor 4,294,967,295.
+ *
+ * Returns 0; or returns 9 if it is faulty.
+ */
+uint32_t contour_check(const uint16_t *points, size_t points_words, const uint32_t *directory,
+                       size_t directory_words, uint32_t rings);
+
+/*
+ * The number of bytes that contour_geojson writes for a ring set.
+ *
+ * Returns 0 and sets *length; or returns 9.
+ */
+uint32_t contour_geojson_length(const uint16_t *points, size_t points_words, const uint32_t *directory,
+                                size_t directory_words, uint32_t rings, uint64_t *length);
+
+/*
+ * Writes a ring set as GeoJSON: one MultiPolygon, its polygons by record number, each followed by its holes by
+ * number, every ring in the order of its points. A coordinate is written as its half, as 3 or as 2.5. Dropped
+ * holes are left out. Without polygons the coordinates are []. The polygon about one sample is
+ *
+ *     {"type":"MultiPolygon","coordinates":[[[[1,0.5],[0.5,0],[0,0.5],[0.5,1],[1,0.5]]]]}
+ *
+ * There is no newline behind it, and no null byte.
+ *
+ * Returns 0 and sets *length to the number of bytes written; or returns 9 or 10; text and *length then stay as
+ * they were. Bytes past the text never change.
+ */
+uint32_t contour_geojson(const uint16_t *points, size_t points_words, const uint32_t *directory,
+                         size_t directory_words, uint32_t rings, uint8_t *text, size_t text_bytes,
+                         uint64_t *length);
 
 #ifdef __cplusplus
 }

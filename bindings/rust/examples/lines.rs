@@ -27,7 +27,7 @@ fn main() -> Result<(), Refusal> {
     print("smoothed", &hill(true, unplaced)?);
     print("smoothed and placed", &hill(true, placed)?);
     if let Err(refusal) = lines(&HILL[1..], 1.0, 4, 3, true, placed) {
-        println!("one value fewer: {refusal}");
+        println!("one value fewer: refusal {}", refusal.number());
     }
     Ok(())
 }

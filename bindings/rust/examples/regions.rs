@@ -16,7 +16,7 @@ fn main() -> Result<(), Refusal> {
     print("band from 1 to 2", &isobands(&VALUES, &LEVELS, 0, 7, 3)?);
     print("band from 2 to 2", &isobands(&VALUES, &LEVELS, 1, 7, 3)?);
     if let Err(refusal) = isobands(&VALUES, &LEVELS, 2, 7, 3) {
-        println!("band from the last threshold: {refusal}");
+        println!("band from the last threshold: refusal {}", refusal.number());
     }
     Ok(())
 }

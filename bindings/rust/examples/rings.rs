@@ -16,7 +16,7 @@ fn main() -> Result<(), Refusal> {
     };
     println!("ring 1 against ring 0: {answer}");
     if let Err(refusal) = rings(&values[1..], 1.0, 3, 3) {
-        println!("one value fewer: {refusal}");
+        println!("one value fewer: refusal {}", refusal.number());
     }
     Ok(())
 }

@@ -124,6 +124,31 @@ extern "C" {
         directory_words: usize,
         rings: *mut u32,
     ) -> u32;
+    pub fn contour_check(
+        points: *const u16,
+        points_words: usize,
+        directory: *const u32,
+        directory_words: usize,
+        rings: u32,
+    ) -> u32;
+    pub fn contour_geojson_length(
+        points: *const u16,
+        points_words: usize,
+        directory: *const u32,
+        directory_words: usize,
+        rings: u32,
+        length: *mut u64,
+    ) -> u32;
+    pub fn contour_geojson(
+        points: *const u16,
+        points_words: usize,
+        directory: *const u32,
+        directory_words: usize,
+        rings: u32,
+        text: *mut u8,
+        text_bytes: usize,
+        length: *mut u64,
+    ) -> u32;
     pub fn contour_area(ring: *const u16, ring_words: usize, area: *mut i64) -> u32;
     pub fn contour_contains(
         outer: *const u16,

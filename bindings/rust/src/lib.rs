@@ -1,16 +1,18 @@
-//! Rings of a terrain, their areas and containment, the polygons with holes that they make, and smoothed and
-//! placed lines, drawn by the proved library libcontour_c.a. The tables that it is lent are sized by its
-//! reports and given up again; rings come out as plain vectors.
+//! Rings of a terrain, their areas and containment, the polygons with holes that they make, these as GeoJSON,
+//! and smoothed and placed lines, drawn by the proved library libcontour_c.a. The tables that it is lent are
+//! sized by its reports and given up again; rings come out as plain vectors.
 //!
 //! Coordinates are doubled whole numbers: sample (column, row) stands at (2·column + 1, 2·row + 1). Those of
 //! lines are floats.
 
 mod ffi;
+mod geojson;
 mod lines;
 mod refusal;
 mod regions;
 mod tables;
 
+pub use geojson::{check, contours_geojson, geojson, isobands_geojson};
 pub use lines::{lines, Placement};
 pub use refusal::Refusal;
 pub use regions::{contours, isobands, Polygon, Regions};
@@ -42,7 +44,7 @@ pub fn rings(
         dx,
         dy,
     };
-    let records = terrain.records()?.into_iter();
+    let records = terrain.drawn()?.records().into_iter();
     Ok(records.map(|record| record.ring).collect())
 }
 

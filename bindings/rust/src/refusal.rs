@@ -11,6 +11,9 @@ pub enum Refusal {
     Thresholds,
     /// 4: a band's list has no pair of thresholds k and k + 1.
     Pair,
+    /// 9: a ring of the set has under 4 points or more than 67,108,864, is not closed, or has a coordinate
+    /// above 8,192.
+    RingSet,
     /// 11: an empty ring, more than 67,108,864 points, or a coordinate above 8,192.
     Ring,
     /// A number that these calls do not draw, since every table has the reported room.
@@ -25,8 +28,27 @@ impl Refusal {
             Refusal::ValueCount => 2,
             Refusal::Thresholds => 3,
             Refusal::Pair => 4,
+            Refusal::RingSet => 9,
             Refusal::Ring => 11,
             Refusal::Other(number) => number,
+        }
+    }
+
+    /// What the number says, in words.
+    pub fn words(self) -> &'static str {
+        match self.number() {
+            1 => "a side of the terrain is 0 or above 4,096",
+            2 => "the number of values is not columns times rows",
+            3 => "the list has fewer than two thresholds",
+            4 => "the list has no pair of thresholds k and k + 1",
+            5 => "the open table is short",
+            6 => "the link table is short",
+            7 => "the points are short",
+            8 => "the directory is short",
+            9 => "a ring has under 4 points or over 67,108,864, is not closed or has a coordinate above 8,192",
+            10 => "the room for the text is short",
+            11 => "a ring is empty, has over 67,108,864 points or a coordinate above 8,192",
+            _ => "no refusal of these calls",
         }
     }
 
@@ -37,15 +59,17 @@ impl Refusal {
             2 => Err(Refusal::ValueCount),
             3 => Err(Refusal::Thresholds),
             4 => Err(Refusal::Pair),
+            9 => Err(Refusal::RingSet),
             11 => Err(Refusal::Ring),
             other => Err(Refusal::Other(other)),
         }
     }
 }
 
+/// The number and its words.
 impl std::fmt::Display for Refusal {
     fn fmt(&self, f: &mut std::fmt::Formatter) -> std::fmt::Result {
-        write!(f, "refusal {}", self.number())
+        write!(f, "refusal {}: {}", self.number(), self.words())
     }
 }
 

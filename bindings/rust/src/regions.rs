@@ -4,7 +4,7 @@ use crate::tables::{Level, Record, Terrain};
 use crate::{Point, Refusal};
 
 /// The owner of a hole that belongs to no polygon.
-const NOBODY: u32 = u32::MAX;
+pub const NOBODY: u32 = u32::MAX;
 
 /// A ring with the holes that belong to it. Each is a closed list of points, the first repeated last.
 #[derive(Clone, Debug, PartialEq, Eq)]
@@ -30,7 +30,7 @@ pub fn contours(values: &[f64], threshold: f64, dx: usize, dy: usize) -> Result<
         dx,
         dy,
     };
-    Ok(Regions::of(terrain.records()?))
+    Ok(Regions::of(terrain.drawn()?.records()))
 }
 
 /// The band of thresholds k and k + 1 of a list, counted from 0: polygons about the samples that are above
@@ -49,7 +49,7 @@ pub fn isobands(
         dx,
         dy,
     };
-    Ok(Regions::of(terrain.records()?))
+    Ok(Regions::of(terrain.drawn()?.records()))
 }
 
 impl Regions {

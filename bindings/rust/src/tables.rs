@@ -25,6 +25,13 @@ pub struct Record {
     pub owner: u32,
 }
 
+/// A ring set: the points' words, and a record of four words a ring.
+#[derive(Default)]
+pub struct Tables {
+    pub points: Vec<u16>,
+    pub directory: Vec<u32>,
+}
+
 /// Calls one of three functions, for rings, contours or a band, with a terrain and what else it takes.
 macro_rules! call {
     ($terrain:expr, [$rings:ident, $contours:ident, $band:ident], $($rest:expr),*) => {{
@@ -92,10 +99,10 @@ impl Terrain<'_> {
         })
     }
 
-    /// Everything drawn, by record number.
-    pub fn records(&self) -> Result<Vec<Record>, Refusal> {
+    /// Everything drawn.
+    pub fn drawn(&self) -> Result<Tables, Refusal> {
         let mut lent = self.lend()?;
-        let mut words = vec![0; 2 * lent.points];
+        let mut points = vec![0; 2 * lent.points];
         let mut directory = vec![0; 4 * lent.rings];
         let mut rings = 0;
         call!(
@@ -105,18 +112,25 @@ impl Terrain<'_> {
             lent.lines.len(),
             lent.links.as_mut_ptr(),
             lent.links.len(),
-            words.as_mut_ptr(),
-            words.len(),
+            points.as_mut_ptr(),
+            points.len(),
             directory.as_mut_ptr(),
             directory.len(),
             &mut rings
         )?;
-        let records = directory.chunks_exact(4).map(|record| Record {
-            ring: points_of(record, &words),
+        Ok(Tables { points, directory })
+    }
+}
+
+impl Tables {
+    /// The records by number, each with its points.
+    pub fn records(&self) -> Vec<Record> {
+        let records = self.directory.chunks_exact(4).map(|record| Record {
+            ring: points_of(record, &self.points),
             class: record[2],
             owner: record[3],
         });
-        Ok(records.collect())
+        records.collect()
     }
 }
 

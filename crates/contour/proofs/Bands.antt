@@ -61,7 +61,7 @@ module _ {fit : GridFit} {L U : Sheet} {dx dy : ℕ} {lines links : List ℕ} wh
   }
 
   module _ {points directory : List ℕ} where
-    isobands-constructed : {answer : Built} {lines′ links′ points′ directory′ : List ℕ} → BuiltOver fit L U dx dy lines links points directory answer lines′ links′ points′ directory′
+    pub isobands-constructed : {answer : Built} {lines′ links′ points′ directory′ : List ℕ} → BuiltOver fit L U dx dy lines links points directory answer lines′ links′ points′ directory′
         → Constructed (planOver fit L U dx dy) lines links points directory answer lines′ links′ points′ directory′
     unfolding bandVerdict bandOutputs bandRoom bandBuilt
     isobands-constructed b = record {

@@ -5,3 +5,5 @@ pub mod Theorems
 pub mod Fits
 pub mod Bands
 pub mod Joined
+pub mod Checked
+pub mod Texts

@@ -1,6 +1,6 @@
--- What a call over lent tables answers and leaves, by what it needs: one result on each entry, refusals exactly where a table is short, and exact room filled to
--- the last word. The contracts of the reports and the builds come to the two records here. Assumes nothing.
-use mathlib.Core.Path.{_≡_, sym, _∙_, ap}
+-- What a call over lent tables answers and leaves, by what it needs: one result on each entry, refusals exactly where a table is short, exact room filled to the
+-- last word, and what stands in the outputs where rings are given. The contracts of the reports and the builds come to the two records here. Assumes nothing.
+use mathlib.Core.Path.{_≡_, refl, sym, _∙_, ap}
 use mathlib.Core.List.{List, _++_, append-nil}
 use Prim.Native.Nat.{ℕ}
 use native.Mathlib.Omega.{arith}
@@ -10,7 +10,7 @@ use Rattle.error.specs.declared.Refusal.the-variants.{OpenShort, LinksShort, Po
 use Rattle.scope.specs.Tables.{zeroed, written}
 use Rattle.scan.specs.declared.GridFit.{GridFit}
 use Rattle.scan.specs.declared.GridFit.the-variants as fit-is
-use Rattle.isoringbuilder.specs.Verdict.{Verdict, passes, afterGrid}
+use Rattle.isoringbuilder.specs.Verdict.{Verdict, refused, passes, afterGrid}
 use Rattle.isoringbuilder.specs.Answers.{workAfter, outputAfter}
 use Rattle.isoringbuilder.specs.declared.Built.{Built}
 use Rattle.isoringbuilder.specs.declared.Built.the-variants as built-is
@@ -81,7 +81,7 @@ module _ {Word : Type 0} {plan : Plan Word} {lines links : List ℕ} {points : L
 -- ---- 3. exact room
 
 -- words that fill a table leave none of it
-nothing-past : {Word : Type 0} (words table : List Word) (n : ℕ) → length table ≡ n → words ++ drop n table ≡ words
+pub nothing-past : {Word : Type 0} (words table : List Word) (n : ℕ) → length table ≡ n → words ++ drop n table ≡ words
 nothing-past {Word} words table n e = ap (λ (l : List Word). words ++ l) (drop-of-length-le table {i = n} (omega arith)) ∙ append-nil words
 
 -- four tables that have just the room
@@ -116,3 +116,28 @@ module _ {Word : Type 0} {plan : Plan Word} {lines links : List ℕ} {points : L
 
       outputs : outputsOf (plan .pointNeed) (plan .directoryNeed) points directory ≡ passes
       outputs = passes-exactly PointsShort DirectoryShort (omega arith) (length points) (plan .pointNeed) (length directory) (plan .directoryNeed) .0 (omega (arith, just .points-just), omega (arith, just .directory-just))
+
+-- ---- 4. what stands in the outputs where rings are given
+
+-- n rings were given: the fit passed, and points and records are written over the outputs
+pub record Given {Word : Type 0} (plan : Plan Word) (points : List Word) (directory : List ℕ) (n : ℕ) (points′ : List Word) (directory′ : List ℕ) : Type 0 where
+  pub fits : plan .fit ≡ fit-is.Fits
+  pub rings-are : plan .rings ≡ n
+  pub points-are : points′ ≡ written (plan .packed) points
+  pub directory-is : directory′ ≡ written (plan .records) directory
+
+module _ {Word : Type 0} {plan : Plan Word} {lines links : List ℕ} {points : List Word} {directory : List ℕ} {answer : Built} {lines′ links′ : List ℕ} {points′ : List Word} {directory′ : List ℕ} where
+  pub given : (n : ℕ) → answer ≡ built-is.Rings n → Constructed plan lines links points directory answer lines′ links′ points′ directory′ → Given plan points directory n points′ directory′
+  unfolding answerBy andThen outputAfter
+  given n is k = by (workOf (plan .fit) (plan .openNeed) (plan .linkNeed) lines links) (outputsOf (plan .pointNeed) (plan .directoryNeed) points directory) refl refl (sym (k .worked .answers) ∙ is)
+    where
+      by : (v w : Verdict) → workOf (plan .fit) (plan .openNeed) (plan .linkNeed) lines links ≡ v → outputsOf (plan .pointNeed) (plan .directoryNeed) points directory ≡ w
+          → answerBy built-is.Refused (built-is.Rings (plan .rings)) (andThen v w) ≡ built-is.Rings n → Given plan points directory n points′ directory′
+      by (refused why) w work outputs e = absurd (let z : _≡_ {A = ℕ} 0 1 = cc in omega arith)
+      by passes (refused why) work outputs e = absurd (let z : _≡_ {A = ℕ} 0 1 = cc in omega arith)
+      by passes passes work outputs e = record {
+        fits = work-passes (plan .fit) (length lines) (plan .openNeed) (length links) (plan .linkNeed) .1 work .0;
+        rings-are = cc;
+        points-are = k .points-are ∙ rw (work, outputs);
+        directory-is = k .directory-is ∙ rw (work, outputs);
+      }

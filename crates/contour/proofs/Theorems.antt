@@ -155,7 +155,7 @@ module _ (values : List Float) (threshold : Float) (dx dy : ℕ) where
         → Constructed (ringsPlan values threshold dx dy) lines links points directory answer lines′ links′ points′ directory′
     rings-constructed k = drawn (packedPoints (ringsOf A dx dy)) (bareRecords 0 0 (ringsOf A dx dy)) lines links points directory (k .answers) (k .lines-are) (k .links-are) (k .points-are) (k .directory-is)
 
-    contours-constructed : {answer : Built} {lines′ links′ points′ directory′ : List ℕ} → ContoursBuilt values threshold dx dy lines links points directory answer lines′ links′ points′ directory′
+    pub contours-constructed : {answer : Built} {lines′ links′ points′ directory′ : List ℕ} → ContoursBuilt values threshold dx dy lines links points directory answer lines′ links′ points′ directory′
         → Constructed (contoursPlan values threshold dx dy) lines links points directory answer lines′ links′ points′ directory′
     contours-constructed k = drawn (packedPoints (ringsOf A dx dy)) (contourRecords (ringsOf A dx dy)) lines links points directory (k .answers) (k .lines-are) (k .links-are) (k .points-are) (k .directory-is)
 

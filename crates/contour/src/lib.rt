@@ -1,8 +1,10 @@
-// The public face: the two reports, the rings of a grid, its lines, contours and isobands, the reports of a band, the area of a ring, and a ring against a ring.
+// The public face: the two reports, the rings of a grid, its lines, contours and isobands, the reports of a band, the area of a ring, a ring against a ring, and the
+// check of a ring set, the length of its text and the text.
 // None asks anything of the caller.
 use area::AreaAnswer;
 use area::Containment;
 use cells::Level;
+use geojson::TextAnswer;
 use isoringbuilder::Built;
 use isoringbuilder::SecondReport;
 use scan::FirstReport;
@@ -11,9 +13,11 @@ ghost use mathlib.Core.Path.{_≡_};
 ghost use Rattle.area.specs.Answers.{areaAnswer, containsAnswer};
 ghost use Rattle.bands.specs.Bands.{bandFirstReport, BandReported, BandBuilt};
 ghost use Rattle.contourbuilder.specs.Contours.{ContoursBuilt};
+ghost use Rattle.geojson.specs.Written.{lengthAnswer, writtenAnswer, textAfter};
 ghost use Rattle.isoringbuilder.specs.Answers.{SecondReported, RingsBuilt};
 ghost use Rattle.linebuilder.specs.Lines.{LinesBuilt};
 ghost use Rattle.scan.specs.Report.{firstReport};
+ghost use Rattle.scope.specs.GeoJson.{ringSetRefused};
 ghost use Rattle.smoothing.specs.Values.{placingOf};
 
 // The segments that a grid draws at a level and the peak of its open lines, or the lowest refusal that applies, alone.
@@ -175,4 +179,26 @@ pub fn contains(outer: &[u16], tested: &[u16]) -> Containment
     ensures { λ r. ⌜ r ≡ containsAnswer (now (outer .entry)) (now (tested .entry)) ⌝ }
 {
     area::contains(outer, tested)
+}
+
+// Whether the writer refuses a ring set: points and a directory of as many rings as are stated.
+pub fn ring_set_faulty(points: &[u16], directory: &[u32], rings: u32) -> bool
+    ensures { λ r. ⌜ r ≡ ringSetRefused (now (points .entry)) (now (directory .entry)) rings ⌝ }
+{
+    ringset::ring_set_faulty(points, directory, rings)
+}
+
+// The number of bytes that the text of a ring set needs, or the refusal of a set that the writer does not take.
+pub fn geojson_length(points: &[u16], directory: &[u32], rings: u32) -> TextAnswer
+    ensures { λ r. ⌜ r ≡ lengthAnswer (now (points .entry)) (now (directory .entry)) rings ⌝ }
+{
+    geojson::geojson_length(points, directory, rings)
+}
+
+// Writes the text of a ring set, one GeoJSON MultiPolygon, and answers its number of bytes. Bytes past the text stay, and a refusal changes nothing.
+pub fn write_geojson(points: &[u16], directory: &[u32], rings: u32, text: &mut [u8]) -> TextAnswer
+    ensures { λ r. ⌜ r ≡ writtenAnswer (now (points .entry)) (now (directory .entry)) rings (now (text .entry)) ⌝ }
+    ensures { λ _. ⌜ now (text .exit) ≡ textAfter (now (points .entry)) (now (directory .entry)) rings (now (text .entry)) ⌝ }
+{
+    geojson::write_geojson(points, directory, rings, text)
 }

@@ -1,3 +1,4 @@
 -- What the entries for C return, as functions of what they are passed.
 pub mod Entries
 pub mod Rings
+pub mod Texts

@@ -3,6 +3,8 @@
 use area::AreaAnswer;
 use area::Containment;
 use cells::Level;
+use error::Refusal;
+use geojson::TextAnswer;
 use isoringbuilder::Built;
 use isoringbuilder::SecondReport;
 use scan::FirstReport;
@@ -10,13 +12,16 @@ use smoothing::Placement;
 ghost use mathlib.Core.Path.{_≡_};
 ghost use Rattle.scope.specs.Area.{areaRefused};
 ghost use Rattle.scope.specs.Containment.{containsRefused};
+ghost use Rattle.scope.specs.GeoJson.{ringSetRefused};
 ghost use Rattle.scan.specs.Report.{firstReport};
 ghost use Rattle.isoringbuilder.specs.Answers.{SecondReported, RingsBuilt};
 ghost use Rattle.bands.specs.Bands.{bandFirstReport, BandReported, BandBuilt};
 ghost use Rattle.contourbuilder.specs.Contours.{ContoursBuilt};
 ghost use Rattle.linebuilder.specs.Lines.{LinesBuilt};
+ghost use Rattle.geojson.specs.Written.{lengthAnswer, writtenAnswer, textAfter};
 ghost use Rattle.contour_c.specs.Entries.{statusOf, areaOutput, containsOutput};
 ghost use Rattle.contour_c.specs.Rings.{firstStatus, firstSegments, firstPeak, SecondEntry, RingsEntry, asked};
+ghost use Rattle.contour_c.specs.Texts.{checkStatus, textStatus, textLength};
 
 // The area of a ring of words X, Y, X, Y, and so on: the crate's undivided one times 4, above 0 for a polygon.
 #[no_mangle]
@@ -332,5 +337,58 @@ pub extern "C" fn contour_isobands(
             0
         }
         Built::Refused(refusal) => error::number(refusal),
+    }
+}
+
+// Whether the writer takes a ring set: 0, or 9.
+#[no_mangle]
+pub extern "C" fn contour_check(points: &[u16], directory: &[u32], rings: u32) -> u32
+    ensures { λ r. ⌜ r ≡ checkStatus (ringSetRefused (now (points .entry)) (now (directory .entry)) rings) ⌝ }
+{
+    if ringset::ring_set_faulty(points, directory, rings) {
+        return error::number(Refusal::BadRingSet);
+    }
+    0
+}
+
+// The number of bytes that the text of a ring set needs.
+#[no_mangle]
+pub extern "C" fn contour_geojson_length(
+    points: &[u16],
+    directory: &[u32],
+    rings: u32,
+    length: &mut u64,
+) -> u32
+    ensures { λ r. ⌜ r ≡ textStatus (lengthAnswer (now (points .entry)) (now (directory .entry)) rings) ⌝ }
+    ensures { λ _. ⌜ now (length .exit) ≡ textLength (now (length .entry)) (lengthAnswer (now (points .entry)) (now (directory .entry)) rings) ⌝ }
+{
+    match geojson::geojson_length(points, directory, rings) {
+        TextAnswer::Bytes(needed) => {
+            *length = needed;
+            0
+        }
+        TextAnswer::Refused(refusal) => error::number(refusal),
+    }
+}
+
+// The text of a ring set, one GeoJSON MultiPolygon, and its number of bytes. Bytes past the text stay.
+#[no_mangle]
+pub extern "C" fn contour_geojson(
+    points: &[u16],
+    directory: &[u32],
+    rings: u32,
+    text: &mut [u8],
+    length: &mut u64,
+) -> u32
+    ensures { λ r. ⌜ r ≡ textStatus (writtenAnswer (now (points .entry)) (now (directory .entry)) rings (now (text .entry))) ⌝ }
+    ensures { λ _. ⌜ now (text .exit) ≡ textAfter (now (points .entry)) (now (directory .entry)) rings (now (text .entry)) ⌝ }
+    ensures { λ _. ⌜ now (length .exit) ≡ textLength (now (length .entry)) (writtenAnswer (now (points .entry)) (now (directory .entry)) rings (now (text .entry))) ⌝ }
+{
+    match geojson::write_geojson(points, directory, rings, text) {
+        TextAnswer::Bytes(bytes) => {
+            *length = bytes;
+            0
+        }
+        TextAnswer::Refused(refusal) => error::number(refusal),
     }
 }

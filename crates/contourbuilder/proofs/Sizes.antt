@@ -60,7 +60,7 @@ module _ (values : List Float) (threshold : Float) (dx dy : ℕ) (sized : Sized 
   abbrev A : Sheet
   A = terrain (atLeast threshold) values dx dy
 
-  laws : Each (RingLaw dx dy) (ringsOf A dx dy)
+  pub laws : Each (RingLaw dx dy) (ringsOf (terrain (atLeast threshold) values dx dy) dx dy)
   unfolding ringsOf
   laws = rings-are-rings A (outside values threshold dx dy sized) dy (suc dx) (omega arith) (omega arith)
 

@@ -12,4 +12,6 @@ pub mod Band
 pub mod Smoothing
 pub mod Room
 pub mod Tables
+pub mod GeoJson
+pub mod Program
 pub mod Dozen

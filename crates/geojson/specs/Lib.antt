@@ -1,0 +1,2 @@
+-- What the writer and the length of its text answer.
+pub mod Written

@@ -1,0 +1,8 @@
+-- What the proofs of this crate share, and in `Runs`, `Lengths` and `Texts` what its callers cite.
+pub mod Runs
+pub mod Lengths
+pub mod Texts
+mod Digits
+mod Rings
+mod Sums
+mod Shares

@@ -1,0 +1,139 @@
+// The check of a ring set: whether words are points and a directory such as a reader takes, which is number 9 of document 01. It takes any words whatever.
+ghost use mathlib.Core.Path.{_≡_};
+ghost use mathlib.Core.Bool.{_||_};
+ghost use Prim.Native.Nat.{_<_, _%_};
+ghost use lib.ListN.{length, getD};
+ghost use Rattle.scope.specs.Limits.{coordinateLimit};
+ghost use Rattle.scope.specs.Area as Area;
+ghost use Rattle.scope.specs.GeoJson.{firstAt, countAt, classAt, ownerAt, unclosed, ownedByAnother, ownedByNone, recordRefused, ringSetRefused};
+
+// The words of a directory record: first point, point count, class, owner.
+const RECORD_STRIDE: usize = 4;
+
+// The largest coordinate of a ring.
+const COORDINATE_LIMIT: u16 = 8192;
+
+// The largest number of points of a ring.
+const POINT_LIMIT: usize = 67108864;
+
+// The owner of a dropped hole.
+const NO_OWNER: u32 = 4294967295;
+
+// A directory record.
+pub struct Record {
+    pub first: u32,
+    pub count: u32,
+    pub class: u32,
+    pub owner: u32,
+}
+
+// The word of a table at an index, and 0 past the end.
+fn word(table: &[u32], i: usize) -> u32
+    ensures { λ r. ⌜ r ≡ getD (now (table .entry)) i 0 ⌝ }
+{
+    if i < table.len() { table[i] } else { 0 }
+}
+
+// Record `k` of a directory; its words are 0 past the end.
+pub fn record_at(directory: &[u32], k: u32) -> Record
+    ensures { λ r. ⌜ (r .first ≡ firstAt (now (directory .entry)) k) × (r .count ≡ countAt (now (directory .entry)) k) × (r .class ≡ classAt (now (directory .entry)) k) × (r .owner ≡ ownerAt (now (directory .entry)) k) ⌝ }
+{
+    let at = RECORD_STRIDE * (k as usize);
+    Record {
+        first: word(directory, at),
+        count: word(directory, at + 1),
+        class: word(directory, at + 2),
+        owner: word(directory, at + 3),
+    }
+}
+
+// Whether a coordinate is above the limit. It looks at every word, with no branch.
+fn coordinate_over(words: &[u16]) -> bool
+    ensures { λ r. ⌜ r ≡ Area.anyAbove coordinateLimit (now (words .entry)) ⌝ }
+{
+    let mut over = false;
+    let mut i = 0;
+    while i < words.len() {
+        over = over | (COORDINATE_LIMIT < words[i]);
+        i += 1;
+    }
+    over
+}
+
+// Whether the last point of a ring is not the first.
+fn unclosed(words: &[u16]) -> bool
+    requires { ⌜ 1 < length (now words) ⌝ }
+    requires { ⌜ length (now words) % 2 ≡ 0 ⌝ }
+    ensures { λ r. ⌜ r ≡ unclosed (Area.points (now (words .entry))) ⌝ }
+{
+    let n = words.len();
+    (words[n - 2] != words[0]) | (words[n - 1] != words[1])
+}
+
+// Whether the owner of record `k` is none that it may have: a polygon owns itself, a hole has a polygon's number or `NO_OWNER`.
+fn ill_owned(directory: &[u32], rings: u32, k: u32) -> bool
+    ensures { λ r. ⌜ r ≡ ownedByAnother (now (directory .entry)) k || ownedByNone (now (directory .entry)) rings k ⌝ }
+{
+    let record = record_at(directory, k);
+    if record.class == 0 {
+        return record.owner != k;
+    }
+    if record.class != 1 {
+        return false;
+    }
+    if record.owner == NO_OWNER {
+        return false;
+    }
+    if rings <= record.owner {
+        return true;
+    }
+    let owner = record_at(directory, record.owner);
+    owner.class != 0
+}
+
+// Whether number 9 refuses record `k` of a set of as many rings as are stated.
+fn record_faulty(points: &[u16], directory: &[u32], rings: u32, k: u32) -> bool
+    ensures { λ r. ⌜ r ≡ recordRefused (now (points .entry)) (now (directory .entry)) rings k ⌝ }
+{
+    let record = record_at(directory, k);
+    let first = record.first as usize;
+    let count = record.count as usize;
+    if count < 4 {
+        return true;
+    }
+    if POINT_LIMIT < count {
+        return true;
+    }
+    let end = 2 * (first + count);
+    if points.len() < end {
+        return true;
+    }
+    let ring = &points[2 * first..end];
+    if coordinate_over(ring) {
+        return true;
+    }
+    if unclosed(ring) {
+        return true;
+    }
+    if 1 < record.class {
+        return true;
+    }
+    ill_owned(directory, rings, k)
+}
+
+// Whether number 9 refuses a set of as many rings as are stated.
+pub fn ring_set_faulty(points: &[u16], directory: &[u32], rings: u32) -> bool
+    ensures { λ r. ⌜ r ≡ ringSetRefused (now (points .entry)) (now (directory .entry)) rings ⌝ }
+{
+    if directory.len() < RECORD_STRIDE * (rings as usize) {
+        return true;
+    }
+    let mut k: u32 = 0;
+    while k < rings {
+        if record_faulty(points, directory, rings, k) {
+            return true;
+        }
+        k += 1;
+    }
+    false
+}

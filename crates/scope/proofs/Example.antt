@@ -1,0 +1,29 @@
+-- Document 01's example of GeoJSON, computed: the text of the one ring around a single sample. Assumes nothing.
+use Prim.Native.Nat.{ℕ}
+use mathlib.Core.Path.{_≡_, refl}
+use mathlib.Core.Bool.{Bool, false}
+use mathlib.Core.List.{List, [], _∷_}
+use Rattle.scope.specs.Limits.{coordinateLimit, pointLimit, recordStride, noOwner}
+use Rattle.scope.specs.Cells.{samePoint}
+use Rattle.scope.specs.Area.{points, lastOf, anyAbove}
+use Rattle.scope.specs.Room.{directoryWords}
+use Rattle.scope.specs.GeoJson.{firstAt, countAt, classAt, ownerAt, wordsIn, ringWordsAt, ringAt, directoryShort, rangeOutside, countOut, coordinateOver, unclosed, classOut, isPolygon, isHole, ownedByAnother, ownedByNone, recordRefused, anyBelow, ringSetRefused, decimalBy, decimal, coordinateText, joined, bracketed, pointText, ringText, numbersOf, polygonNumbers, isHoleOf, holeNumbers, polygonText, opening, geoJsonText}
+
+pub ring : List ℕ
+ring = 2 ∷ 1 ∷ 1 ∷ 0 ∷ 0 ∷ 1 ∷ 1 ∷ 2 ∷ 2 ∷ 1 ∷ []
+
+pub directory : List ℕ
+directory = 0 ∷ 5 ∷ 0 ∷ 0 ∷ []
+
+pub stated : List ℕ
+stated =
+    123 ∷ 34 ∷ 116 ∷ 121 ∷ 112 ∷ 101 ∷ 34 ∷ 58 ∷ 34 ∷ 77 ∷ 117 ∷ 108 ∷ 116 ∷ 105 ∷ 80 ∷ 111 ∷ 108 ∷ 121 ∷ 103 ∷ 111
+    ∷ 110 ∷ 34 ∷ 44 ∷ 34 ∷ 99 ∷ 111 ∷ 111 ∷ 114 ∷ 100 ∷ 105 ∷ 110 ∷ 97 ∷ 116 ∷ 101 ∷ 115 ∷ 34 ∷ 58 ∷ 91 ∷ 91 ∷ 91
+    ∷ 91 ∷ 49 ∷ 44 ∷ 48 ∷ 46 ∷ 53 ∷ 93 ∷ 44 ∷ 91 ∷ 48 ∷ 46 ∷ 53 ∷ 44 ∷ 48 ∷ 93 ∷ 44 ∷ 91 ∷ 48 ∷ 44 ∷ 48
+    ∷ 46 ∷ 53 ∷ 93 ∷ 44 ∷ 91 ∷ 48 ∷ 46 ∷ 53 ∷ 44 ∷ 49 ∷ 93 ∷ 44 ∷ 91 ∷ 49 ∷ 44 ∷ 48 ∷ 46 ∷ 53 ∷ 93 ∷ 93
+    ∷ 93 ∷ 93 ∷ 125
+    ∷ []
+
+pub the-example : (ringSetRefused ring directory 1 ≡ false) × (geoJsonText ring directory 1 ≡ stated)
+unfolding ring directory stated coordinateLimit pointLimit recordStride noOwner samePoint points lastOf anyAbove directoryWords firstAt countAt classAt ownerAt wordsIn ringWordsAt ringAt directoryShort rangeOutside countOut coordinateOver unclosed classOut isPolygon isHole ownedByAnother ownedByNone recordRefused anyBelow ringSetRefused decimalBy decimal coordinateText joined bracketed pointText ringText numbersOf polygonNumbers isHoleOf holeNumbers polygonText opening geoJsonText
+the-example = (refl, refl)
