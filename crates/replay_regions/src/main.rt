@@ -9,7 +9,6 @@ use cells::Level;
 use contourbuilder::contours;
 use contourbuilder::isobands;
 use replaying::Case;
-use replaying::Counts;
 use replaying::DIRECTORY;
 use replaying::LINES;
 use replaying::LINKS;
@@ -23,8 +22,10 @@ use replaying::SOILED;
 use replaying::TEXT;
 use replaying::VALUES;
 use replaying::after;
+use replaying::after_records;
 use replaying::built_code;
 use replaying::case_of;
+use replaying::counts_of;
 use replaying::first_code;
 use replaying::is_long;
 use replaying::least;
@@ -373,16 +374,6 @@ fn threshold(numbers: &[u32], i: usize) -> f64 {
     word(numbers, i) as f64
 }
 
-// S, H, R and the number of points.
-fn counts_of(set: &[u32]) -> Counts {
-    Counts {
-        segments: word(set, 0),
-        peak: word(set, 1),
-        rings: word(set, 2),
-        points: word(set, 3),
-    }
-}
-
 // The case of a grid and of the set whose numbers these are.
 fn case_at(grid: &[u32], set: &[u32]) -> Case {
     case_of(word(grid, 0), word(grid, 1), counts_of(set))
@@ -392,11 +383,6 @@ fn case_at(grid: &[u32], set: &[u32]) -> Case {
 fn after_samples(grid: &[u32]) -> &[u32] {
     let case = case_at(grid, grid);
     after(after(grid, 2), case.samples)
-}
-
-// The numbers after the records of a set.
-fn after_records(set: &[u32]) -> &[u32] {
-    after(set, 4 + 4 * (word(set, 2) as usize))
 }
 
 // Whether the grid whose numbers these are is replayed without a difference.
