@@ -1,5 +1,6 @@
-# Packages, our static library and cargo, for the scripts that hold our library against the crate:
-# compare/run and bench/run. They source this file, with $root at the top of the repository.
+# Packages, our static library and cargo, for the scripts that hold our library against the crate,
+# compare/run and bench/run, and for ./draw and compare/outside. They source this file, with $root at the
+# top of the repository.
 
 build=$root/target/compare
 target=x86_64-unknown-linux-gnu
@@ -77,6 +78,9 @@ find_features() {
     fi
     if library_has contour_lines; then
         features+=(--features lines)
+    fi
+    if library_has contour_geojson; then
+        features+=(--features geojson)
     fi
 }
 

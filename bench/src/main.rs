@@ -5,8 +5,12 @@
 #[allow(dead_code)]
 #[path = "../../bindings/rust/src/ffi.rs"]
 mod declared;
+/// The plain writer, which compare holds our library to.
+#[path = "../../compare/src/geojson.rs"]
+mod geojson;
 mod ours;
 mod terrains;
+mod texts;
 mod theirs;
 
 use ours::Drawn;
@@ -33,10 +37,15 @@ fn main() {
         }
     };
     let lines = terrains::LINES.into_iter();
-    let closing: Vec<String> = lines
+    let mut closing: Vec<String> = lines
         .filter(|(_, _, figure, _)| figure.is_in_library())
         .map(|line| bench(line, runs))
         .collect();
+    if cfg!(feature = "geojson") {
+        closing.extend(terrains::TEXTS.map(|text| texts::bench(text, runs)));
+    } else {
+        println!("the GeoJSON writer is not in the library: not timed");
+    }
     if !cfg!(feature = "regions") {
         println!("contours and bands are not in the library: not timed");
     }

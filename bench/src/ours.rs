@@ -1,4 +1,5 @@
-//! Our library's builds: the first report sizes the tables, then everything is drawn.
+//! Our library's builds: the first report sizes the tables, then everything is drawn. And its text of what is
+//! drawn.
 
 use crate::declared::*;
 use crate::terrains::{Figure, Terrain};
@@ -65,6 +66,17 @@ impl Drawn {
     pub fn words(&self) -> impl Iterator<Item = u64> + '_ {
         let points: u32 = self.records().map(|record| record[1]).sum();
         self.points.part(0..2 * points as usize)
+    }
+
+    /// A record's points, halved.
+    pub fn halves(&self, [first, count, ..]: [u32; 4]) -> impl Iterator<Item = [f64; 2]> + '_ {
+        let words = match &self.points {
+            Points::Words(words) => words,
+            Points::Floats(_) => unreachable!("the points of lines are not doubled"),
+        };
+        let [first, count] = [first, count].map(|number| 2 * number as usize);
+        let points = words[first..first + count].chunks_exact(2);
+        points.map(|p| [p[0], p[1]].map(|word| f64::from(word) / 2.0))
     }
 
     /// The words of a record's points.
@@ -167,4 +179,33 @@ fn draw_lines(
         )
     };
     assert!(number == 0, "refusal {number}");
+}
+
+/// The text of a contour or band: its length sizes the room, then it is written.
+#[cfg(feature = "geojson")]
+pub fn text(drawn: &Drawn) -> Vec<u8> {
+    let words = match &drawn.points {
+        Points::Words(words) => words,
+        Points::Floats(_) => unreachable!("lines are no ring set"),
+    };
+    let (points, directory) = (words.as_ptr(), drawn.directory.as_ptr());
+    let [points_words, directory_words] = [words.len(), drawn.directory.len()];
+    let mut length = 0;
+    macro_rules! call {
+        ($function:ident, $($rest:expr),*) => {{
+            let number = unsafe {
+                $function(points, points_words, directory, directory_words, drawn.rings, $($rest),*)
+            };
+            assert!(number == 0, "refusal {number}");
+        }};
+    }
+    call!(contour_geojson_length, &mut length);
+    let mut text = vec![0; length as usize];
+    call!(contour_geojson, text.as_mut_ptr(), text.len(), &mut length);
+    text
+}
+
+#[cfg(not(feature = "geojson"))]
+pub fn text(_: &Drawn) -> Vec<u8> {
+    unreachable!("no writer in the library")
 }

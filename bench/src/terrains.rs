@@ -75,6 +75,14 @@ pub const LINES: [Line; 15] = [
     ("lines-noise-2048", || noise(2_048, 2_048), Lines(0.5), Crate),
 ];
 
+/// A line that times the writer: its name, its terrain, and the threshold of the contour that is written.
+pub type Text = (&'static str, fn() -> Terrain, f64);
+
+pub const TEXTS: [Text; 2] = [
+    ("geojson-1024", || noise(1_024, 1_024), 0.5),
+    ("geojson-three-quarters-1024", || noise(1_024, 1_024), 0.25),
+];
+
 impl Terrain {
     fn new(dx: usize, dy: usize, mut height: impl FnMut(usize, usize) -> f64) -> Self {
         Terrain {

@@ -1,23 +1,22 @@
-//! What an entry is asked: a terrain, for a band a list of thresholds, for lines how they are drawn. Numbers
-//! lent to be read stand between guards.
+//! What an entry is asked: a terrain, for a band a list of thresholds, for lines how they are drawn.
 
 use crate::entries::Kind;
-use crate::lent::GUARDS;
+use crate::guarded::Guarded;
 use crate::lines::Pen;
 use crate::rings::{Grid, Pair};
 
 const LONGEST_SIDE: usize = 4_096;
 
-/// A terrain as it is lent, and for a band the list of thresholds: numbers between guards. The guards of the
-/// values are above every threshold that has any above it; those of the list have every sample above them.
-/// The number of values need not be that of the sides, and the list need not have the pair.
+/// A terrain as it is lent, and for a band the list of thresholds: the patterns of floats between guards. The
+/// guards of the values are above every threshold that has any above it; those of the list have every sample
+/// above them. The number of values need not be that of the sides, and the list need not have the pair.
 pub struct Asked<'a> {
     pub kind: Kind,
     pub grid: &'a Grid,
     pub pair: Option<&'a Pair>,
     pub pen: Option<Pen>,
-    pub values: Guarded,
-    pub list: Guarded,
+    pub values: Guarded<u64>,
+    pub list: Guarded<u64>,
 }
 
 impl<'a> Asked<'a> {
@@ -28,8 +27,8 @@ impl<'a> Asked<'a> {
             grid,
             pair: None,
             pen: None,
-            values: Guarded::new(&grid.values, f64::INFINITY),
-            list: Guarded::new(&[], f64::NEG_INFINITY),
+            values: guarded(&grid.values, f64::INFINITY),
+            list: guarded(&[], f64::NEG_INFINITY),
         }
     }
 
@@ -37,7 +36,7 @@ impl<'a> Asked<'a> {
     pub fn band(grid: &'a Grid, pair: &'a Pair) -> Self {
         Asked {
             pair: Some(pair),
-            list: Guarded::new(&pair.list, f64::NEG_INFINITY),
+            list: guarded(&pair.list, f64::NEG_INFINITY),
             ..Asked::new(Kind::Bands, grid)
         }
     }
@@ -81,35 +80,14 @@ impl<'a> Asked<'a> {
     /// Whether everything lent to be read is still what it was.
     pub fn is_still(&self) -> bool {
         let list = self.pair.map_or(&[][..], |pair| &pair.list);
-        self.values.is_still(&self.grid.values) && self.list.is_still(list)
+        self.values.is_still(&patterns(&self.grid.values)) && self.list.is_still(&patterns(list))
     }
 }
 
-/// Numbers with guards before and behind.
-pub struct Guarded {
-    all: Vec<f64>,
-    guard: f64,
+fn guarded(floats: &[f64], guard: f64) -> Guarded<u64> {
+    Guarded::new(&patterns(floats), guard.to_bits())
 }
 
-impl Guarded {
-    fn new(numbers: &[f64], guard: f64) -> Self {
-        let all = [&[guard; GUARDS], numbers, &[guard; GUARDS]].concat();
-        Guarded { all, guard }
-    }
-
-    /// Whether the numbers and the guards are, bit for bit, what they were.
-    fn is_still(&self, numbers: &[f64]) -> bool {
-        let guards = [self.guard; GUARDS];
-        let all = guards.iter().chain(numbers).chain(&guards);
-        all.map(|number| number.to_bits())
-            .eq(self.all.iter().map(|number| number.to_bits()))
-    }
-
-    pub fn at(&self) -> *const f64 {
-        self.all[GUARDS..].as_ptr()
-    }
-
-    pub fn count(&self) -> usize {
-        self.all.len() - 2 * GUARDS
-    }
+fn patterns(floats: &[f64]) -> Vec<u64> {
+    floats.iter().map(|float| float.to_bits()).collect()
 }

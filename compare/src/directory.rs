@@ -11,18 +11,18 @@ use contour::ContourBuilder;
 use geo_types::{LineString, MultiPolygon, Polygon};
 use std::collections::{HashMap, VecDeque};
 
-const POLYGON: u32 = 0;
-const HOLE: u32 = 1;
+pub const POLYGON: u32 = 0;
+pub const HOLE: u32 = 1;
 const BARE: u32 = 2;
-const NOBODY: u32 = 4_294_967_295;
+pub const NOBODY: u32 = 4_294_967_295;
 /// Where rings times points are more, the words of document 01 are not worked out a second time.
 const DEAREST: usize = 4_000_000;
 
 /// A class and an owner.
 type Fate = [u32; 2];
 
-/// All records of the rings, which stand here as their points do.
-pub fn directory(asked: &Asked, rings: &[Ring]) -> Vec<u32> {
+/// All records of the rings, which stand here as their points do, by the crate's polygons.
+pub fn directory(asked: &Asked, rings: &[Ring], polygons: &[Polygon]) -> Vec<u32> {
     let firsts = rings.iter().scan(0, |end, ring| {
         let first = *end;
         *end += ring.points.len();
@@ -33,7 +33,7 @@ pub fn directory(asked: &Asked, rings: &[Ring]) -> Vec<u32> {
         records.sort_by_key(|(_, ring)| area(ring).abs() / 4);
     }
     let rings: Vec<&Ring> = records.iter().map(|&(_, ring)| ring).collect();
-    let with_fates = records.iter().zip(fates(asked, &rings));
+    let with_fates = records.iter().zip(fates(asked, &rings, polygons));
     with_fates
         .flat_map(|(&(first, ring), [class, owner])| {
             [first as u32, ring.points.len() as u32, class, owner]
@@ -42,11 +42,11 @@ pub fn directory(asked: &Asked, rings: &[Ring]) -> Vec<u32> {
 }
 
 /// The fates of rings in record order.
-fn fates(asked: &Asked, rings: &[&Ring]) -> Vec<Fate> {
+fn fates(asked: &Asked, rings: &[&Ring], polygons: &[Polygon]) -> Vec<Fate> {
     if let Kind::Rings | Kind::Lines = asked.kind {
         return vec![[BARE, NOBODY]; rings.len()];
     }
-    let fates = read_off(rings, crate_polygons(asked));
+    let fates = read_off(rings, polygons);
     let points: usize = rings.iter().map(|ring| ring.points.len()).sum();
     if rings.len() * points <= DEAREST {
         let stated = by_document(asked.kind, rings);
@@ -58,32 +58,32 @@ fn fates(asked: &Asked, rings: &[&Ring]) -> Vec<Fate> {
     fates
 }
 
-/// The crate's polygons by record number.
-fn crate_polygons(asked: &Asked) -> Vec<Polygon> {
+/// The crate's polygons by record number. Bare rings and lines make none.
+pub fn crate_polygons(asked: &Asked) -> Vec<Polygon> {
     let grid = asked.grid;
     let builder = ContourBuilder::new(grid.dx, grid.dy, false);
-    let MultiPolygon(mut polygons) = match asked.pair {
-        None => {
+    match (asked.kind, asked.pair) {
+        (Kind::Contours, _) => {
             let contours = builder.contours(&grid.values, &[grid.threshold]);
             let mut contours = contours.expect("the crate draws every contour");
-            contours.remove(0).into_inner().0
+            let (MultiPolygon(polygons), _) = contours.remove(0).into_inner();
+            polygons
         }
-        Some(pair) => {
+        (Kind::Bands, Some(pair)) => {
             let bands = builder.isobands(&grid.values, &pair.list);
             let mut bands = bands.expect("the crate draws every band");
-            bands.remove(pair.k).into_inner().0
+            let MultiPolygon(mut polygons) = bands.remove(pair.k).into_inner().0;
+            polygons.reverse();
+            polygons
         }
-    };
-    if asked.kind == Kind::Bands {
-        polygons.reverse();
+        _ => Vec::new(),
     }
-    polygons
 }
 
 /// A ring that is no polygon's exterior and no interior is a dropped hole. Two sets may have a ring in
 /// common, vertex by vertex. Its two records then have the same class and the same owner, and stand in
 /// the crate's list in their order.
-fn read_off(rings: &[&Ring], polygons: Vec<Polygon>) -> Vec<Fate> {
+fn read_off(rings: &[&Ring], polygons: &[Polygon]) -> Vec<Fate> {
     let mut numbers = HashMap::<&[u16], VecDeque<usize>>::new();
     for (number, ring) in rings.iter().enumerate() {
         numbers.entry(&ring.words).or_default().push_back(number);

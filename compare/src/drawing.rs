@@ -3,12 +3,13 @@
 
 use crate::asked::Asked;
 use crate::counts::Counts;
-use crate::directory::directory;
+use crate::directory::{crate_polygons, directory};
 use crate::entries::{Entry, Step};
 use crate::lent::{Lent, Room, Table, PEAK, POINTS, RINGS, SEGMENTS};
 use crate::lines::{crate_lines, Pen};
 use crate::points::Points;
 use crate::rings::{Grid, Ring};
+use geo_types::Polygon;
 use std::ops::Range;
 
 pub struct Drawing {
@@ -16,7 +17,9 @@ pub struct Drawing {
     pub counts: Counts,
     /// All rings' or lines' words, one after the other; of a band the lower set's first.
     pub points: Points,
-    directory: Vec<u32>,
+    pub directory: Vec<u32>,
+    /// The crate's polygons by record number.
+    pub polygons: Vec<Polygon>,
     dx: usize,
 }
 
@@ -36,9 +39,11 @@ impl Drawing {
             counts = counts.larger(counted);
             rings.extend(drawn);
         }
+        let polygons = crate_polygons(asked);
         Some(Drawing {
             counts,
-            directory: directory(asked, &rings),
+            directory: directory(asked, &rings, &polygons),
+            polygons,
             points: match asked.pen {
                 Some(pen) => lines(asked.grid, pen, &rings),
                 None => Points::Words(rings.into_iter().flat_map(|ring| ring.words).collect()),

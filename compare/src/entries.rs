@@ -67,7 +67,7 @@ impl Entry {
 macro_rules! call {
     ($asked:expr, [$rings:ident, $contours:ident, $band:ident], $($rest:expr),*) => {{
         let Grid { threshold, dx, dy, .. } = *$asked.grid;
-        let (values, count) = ($asked.values.at(), $asked.values.count());
+        let (values, count) = ($asked.values.at().cast(), $asked.values.count());
         match $asked.kind {
             Kind::Rings => unsafe { $rings(values, count, threshold, dx, dy, $($rest),*) },
             #[cfg(feature = "regions")]
@@ -75,7 +75,8 @@ macro_rules! call {
             #[cfg(feature = "regions")]
             Kind::Bands => {
                 let (list, k) = (&$asked.list, $asked.pair.map_or(0, |pair| pair.k));
-                unsafe { $band(values, count, list.at(), list.count(), k, dx, dy, $($rest),*) }
+                let (list, places) = (list.at().cast(), list.count());
+                unsafe { $band(values, count, list, places, k, dx, dy, $($rest),*) }
             }
             _ => unreachable!("no such entry in the library"),
         }
@@ -140,7 +141,7 @@ fn draw_lines(asked: &Asked, lent: &mut Lent) -> u32 {
     let [x_origin, y_origin, x_step, y_step] = pen.placement;
     unsafe {
         contour_lines(
-            asked.values.at(),
+            asked.values.at().cast(),
             asked.values.count(),
             threshold,
             dx,

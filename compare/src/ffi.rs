@@ -1,8 +1,8 @@
-//! Calls into our static library. The words that a call is lent stand between guard words above every
-//! limit, and the place for its result stands between two others, so that a call which reads or writes
-//! beside what it was lent, or writes where it must not, does not give the expected answer.
+//! Calls of area and containment. The words that a call is lent stand between guard words above every limit,
+//! and the place for its result stands between two others, which a call may not change either.
 
 use crate::declared::{contour_area, contour_contains};
+use crate::guarded::Guarded;
 use std::fmt;
 
 /// What a call answered, or what is expected of it.
@@ -27,36 +27,13 @@ impl fmt::Display for Answer {
 }
 
 const GUARD: u16 = 0xFFFF;
-const GUARDS: usize = 4;
 /// Stands in the result before a call: no area and no containment answer.
 const UNSET: i32 = 0x5A5A_5A5A;
 
-/// A copy of some words with guard words before and behind.
-struct Lent(Vec<u16>);
-
-impl Lent {
-    fn new(words: &[u16]) -> Self {
-        let mut all = vec![GUARD; words.len() + 2 * GUARDS];
-        all[GUARDS..GUARDS + words.len()].copy_from_slice(words);
-        Lent(all)
-    }
-
-    fn words(&mut self) -> &mut [u16] {
-        let end = self.0.len() - GUARDS;
-        &mut self.0[GUARDS..end]
-    }
-
-    fn is_still(&self, words: &[u16]) -> bool {
-        let (front, rest) = self.0.split_at(GUARDS);
-        let (middle, back) = rest.split_at(words.len());
-        middle == words && front.iter().chain(back).all(|&word| word == GUARD)
-    }
-}
-
 /// `contour_area` on a guarded copy of the words.
 pub fn area(ring: &[u16]) -> Answer {
-    let mut lent = Lent::new(ring);
-    let answer = area_in_place(lent.words());
+    let mut lent = Guarded::new(ring, GUARD);
+    let answer = area_in_place(lent.numbers());
     if lent.is_still(ring) {
         answer
     } else {
@@ -66,8 +43,8 @@ pub fn area(ring: &[u16]) -> Answer {
 
 /// `contour_contains` on guarded copies of both rings' words.
 pub fn contains(outer: &[u16], tested: &[u16]) -> Answer {
-    let (mut lent_outer, mut lent_tested) = (Lent::new(outer), Lent::new(tested));
-    let answer = contains_in_place(lent_outer.words(), lent_tested.words());
+    let [mut lent_outer, mut lent_tested] = [outer, tested].map(|ring| Guarded::new(ring, GUARD));
+    let answer = contains_in_place(lent_outer.numbers(), lent_tested.numbers());
     if !lent_outer.is_still(outer) {
         Answer::Changed("the outer ring's words")
     } else if !lent_tested.is_still(tested) {

@@ -2,6 +2,7 @@
 //! words before, between and behind them, and is compared whole; the points stand in another.
 
 use crate::entries::Kind;
+use crate::guarded::GUARDS;
 use crate::points::Points;
 use crate::random::Random;
 use std::ops::Range;
@@ -29,7 +30,6 @@ impl Room {
 }
 
 const GUARD: u32 = 0xC0DE_CA5E;
-pub const GUARDS: usize = 4;
 /// Stands in each output before a call: no count comes near it.
 const UNSET: u32 = 0x5A5A_5A5A;
 /// The places of the sheet: three tables and four outputs.

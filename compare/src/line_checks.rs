@@ -1,5 +1,5 @@
-//! `contour_lines` on whole terrains: every answer and every word of every table. Each function returns how
-//! many terrains there were.
+//! `contour_lines` on whole terrains: every answer and every word of every table. Each function returns how many
+//! terrains there were.
 
 use crate::asked::Asked;
 use crate::calls::{compare_asked, compare_exact};

@@ -93,13 +93,13 @@ fn polygons(asked: &Asked) -> String {
 fn lines() -> String {
     let row_12 = Grid::new(2, 1, 1.0, |x, _| 4.0 * x as f64);
     let hill = Grid::new(4, 3, 1.0, |x, y| HILL[y][x].into());
-    let (unplaced, placed) = ([0.0, 0.0, 1.0, 1.0], [10.0, 20.0, 0.5, 0.25]);
+    let (nowhere, moved) = ([0.0, 0.0, 1.0, 1.0], [10.0, 20.0, 0.5, 0.25]);
     let mut text = String::new();
     for (title, grid, smooth, placement) in [
-        ("two samples, smoothed", &row_12, 1, unplaced),
-        ("as drawn", &hill, 0, unplaced),
-        ("smoothed", &hill, 1, unplaced),
-        ("smoothed and placed", &hill, 1, placed),
+        ("two samples, smoothed", &row_12, 1, nowhere),
+        ("as drawn", &hill, 0, nowhere),
+        ("smoothed", &hill, 1, nowhere),
+        ("smoothed and placed", &hill, 1, moved),
     ] {
         let asked = Asked::lines(grid, Pen { smooth, placement });
         let drawing = Drawing::of(&asked).expect("a question that passes");

@@ -3,7 +3,7 @@
 
 use crate::asked::Asked;
 use crate::counts::Counts;
-use crate::directory::directory;
+use crate::directory::{crate_polygons, directory};
 use crate::entries::Kind;
 use crate::random::Random;
 use crate::rings::{Grid, Pair, Ring};
@@ -146,7 +146,12 @@ impl Terrain {
         let mut line = format!("{} {}", self.dx, self.dy);
         append(&mut line, self.heights.iter().chain(&self.thresholds));
         let counts = Counts::of(&lower);
-        append_set(&mut line, counts, &Asked::new(Kind::Contours, &lower), &rings);
+        append_set(
+            &mut line,
+            counts,
+            &Asked::new(Kind::Contours, &lower),
+            &rings,
+        );
         rings.extend(upper_rings);
         let counts = counts.larger(Counts::of(&upper));
         append_set(&mut line, counts, &Asked::band(&lower, &pair), &rings);
@@ -160,7 +165,7 @@ impl Terrain {
 pub fn append_set(line: &mut String, counts: Counts, asked: &Asked, rings: &[Ring]) {
     let points = rings.iter().map(|ring| ring.points.len()).sum();
     append(line, [counts.segments, counts.peak, rings.len(), points]);
-    let words = directory(asked, rings);
+    let words = directory(asked, rings, &crate_polygons(asked));
     append(line, words.into_iter().map(|word| word.min(NOBODY)));
 }
 

@@ -1,0 +1,134 @@
+//! Ring sets, as the writer reads them: points, a directory and the number of rings stated. What document 01 says
+//! of one, number 9 and the text, is written down here from its records, and the text from the crate's polygons.
+
+use crate::directory::{HOLE, NOBODY, POLYGON};
+use crate::drawing::Drawing;
+use crate::exact::{LARGEST, MOST_POINTS};
+use crate::geojson;
+use crate::oracle::halved;
+use crate::points::Points;
+use crate::Pt;
+use geo_types::LineString;
+use std::iter::once;
+
+/// The refusals of the writer.
+pub const FAULTY: u32 = 9;
+pub const SHORT: u32 = 10;
+
+const FEWEST_POINTS: u32 = 4;
+
+#[derive(Clone, Default)]
+pub struct RingSet {
+    /// The words that stand in memory.
+    pub points: Vec<u16>,
+    pub directory: Vec<u32>,
+    /// How many of the last words of each are not lent.
+    pub withheld: [usize; 2],
+    /// The number of rings stated.
+    pub rings: u32,
+}
+
+/// First point, point count, class and owner.
+pub type Record = [u32; 4];
+
+impl RingSet {
+    /// The tables of a contour or band.
+    pub fn of(drawing: &Drawing) -> Self {
+        let points = match &drawing.points {
+            Points::Words(words) => words.clone(),
+            Points::Patterns(_) => unreachable!("lines are no ring set"),
+        };
+        RingSet {
+            points,
+            directory: drawing.directory.clone(),
+            rings: drawing.rings() as u32,
+            ..RingSet::default()
+        }
+    }
+
+    /// One more ring.
+    pub fn push(&mut self, ring: &[u16], class: u32, owner: u32) {
+        let [first, count] = [self.points.len(), ring.len()].map(|words| words as u32 / 2);
+        self.points.extend(ring);
+        self.directory.extend([first, count, class, owner]);
+        self.rings += 1;
+    }
+
+    pub fn lent_points(&self) -> &[u16] {
+        &self.points[..self.points.len() - self.withheld[0]]
+    }
+
+    pub fn lent_directory(&self) -> &[u32] {
+        &self.directory[..self.directory.len() - self.withheld[1]]
+    }
+
+    /// The stated records, as far as the directory has them.
+    fn records(&self) -> Vec<Record> {
+        let records = self.lent_directory().chunks_exact(4);
+        let stated = records.take(self.rings as usize);
+        stated.map(|r| [r[0], r[1], r[2], r[3]]).collect()
+    }
+
+    /// Whether number 9 is due: a directory shorter than the stated rings, or a faulty record.
+    pub fn is_faulty(&self) -> bool {
+        let records = self.records();
+        let mut numbered = (0..).zip(&records);
+        self.lent_directory().len() < 4 * self.rings as usize
+            || numbered.any(|(number, record)| self.is_faulty_record(&records, number, record))
+    }
+
+    fn is_faulty_record(&self, records: &[Record], number: u32, record: &Record) -> bool {
+        let [_, count, class, owner] = *record;
+        let ring = match self.ring(record) {
+            None => return true,
+            Some(ring) => ring,
+        };
+        let is_polygon = |number: u32| match records.get(number as usize) {
+            Some(record) => record[2] == POLYGON,
+            None => false,
+        };
+        count < FEWEST_POINTS
+            || count as usize > MOST_POINTS
+            || ring.iter().any(|&coordinate| coordinate > LARGEST)
+            || ring[ring.len() - 2..] != ring[..2]
+            || match class {
+                POLYGON => owner != number,
+                HOLE => owner != NOBODY && !is_polygon(owner),
+                _ => true,
+            }
+    }
+
+    /// The words of a record's points, unless its range is outside the points.
+    fn ring(&self, [first, count, ..]: &Record) -> Option<&[u16]> {
+        let [first, count] = [first, count].map(|&number| 2 * number as usize);
+        self.lent_points().get(first..first + count)
+    }
+
+    /// The text of a set without fault: polygons by record number, each followed by its holes by number.
+    pub fn text(&self) -> Option<Vec<u8>> {
+        if self.is_faulty() {
+            return None;
+        }
+        let records = self.records();
+        let numbered = (0..).zip(&records);
+        let polygons = numbered.filter(|(_, record)| record[2] == POLYGON);
+        Some(geojson::text(polygons.map(|(number, polygon)| {
+            let holes = records.iter().filter(|r| r[2..] == [HOLE, number]);
+            let rings = once(polygon).chain(holes).map(|record| self.ring(record));
+            let rings: Vec<Vec<Pt>> = rings.flatten().map(halved).collect();
+            rings.into_iter().map(coordinates)
+        })))
+    }
+}
+
+/// The crate's polygons of a contour or band as text.
+pub fn crate_text(drawing: &Drawing) -> Vec<u8> {
+    geojson::text(drawing.polygons.iter().map(|polygon| {
+        let rings = once(polygon.exterior()).chain(polygon.interiors());
+        rings.map(|LineString(points)| coordinates(points.clone()))
+    }))
+}
+
+fn coordinates(points: Vec<Pt>) -> impl Iterator<Item = [f64; 2]> {
+    points.into_iter().map(|p| [p.x, p.y])
+}

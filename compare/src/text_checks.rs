@@ -1,0 +1,139 @@
+//! The writer on ring sets without fault: those of contours and bands, those that nobody draws, and the largest.
+
+use crate::asked::Asked;
+use crate::directory::{HOLE, NOBODY, POLYGON};
+use crate::drawing::Drawing;
+use crate::exact::{LARGEST, MOST_POINTS};
+use crate::random::Random;
+use crate::ring_sets::{crate_text, RingSet};
+use crate::tally::Tally;
+use crate::text_calls::{compare_set, Expected};
+
+/// How many random sets a round has.
+const SETS: usize = 20_000;
+
+/// A contour or band: the crate's polygons are written, and so are the records; the two texts have to be the same.
+pub fn compare_drawn(tally: &mut Tally, random: &mut Random, asked: &Asked) -> Drawing {
+    let drawing = Drawing::of(asked).expect("a question that passes");
+    let set = RingSet::of(&drawing);
+    let text = Some(crate_text(&drawing));
+    assert!(
+        set.text() == text,
+        "the text of the records is not that of the crate's polygons"
+    );
+    compare_set(tally, random, &set, Expected::of(&text));
+    drawing
+}
+
+/// No ring at all, and one ring with every coordinate there is.
+pub fn every_coordinate(tally: &mut Tally, random: &mut Random) {
+    let mut set = RingSet::default();
+    compare_good(tally, random, &set);
+    let points = (0..=LARGEST).flat_map(|c| [c, LARGEST - c]);
+    let ring: Vec<u16> = points.chain([0, LARGEST]).collect();
+    set.push(&ring, POLYGON, 0);
+    compare_good(tally, random, &set);
+}
+
+/// Sets that no terrain need have: records in any order, and points that belong to several records or to none.
+pub fn any_sets(tally: &mut Tally, random: &mut Random) {
+    for _ in 0..SETS {
+        let set = random_set(random);
+        compare_good(tally, random, &set);
+    }
+}
+
+fn compare_good(tally: &mut Tally, random: &mut Random, set: &RingSet) {
+    let text = set.text();
+    assert!(text.is_some(), "a set with a fault");
+    compare_set(tally, random, set, Expected::of(&text));
+}
+
+/// Up to a dozen closed rings of any points. Holes belong to any polygon or to nobody, before it or behind it. Some
+/// records have the points of others, and between the points of two rings and behind the stated records any words
+/// may stand.
+pub fn random_set(random: &mut Random) -> RingSet {
+    let (rings, share) = (random.below(13), random.below(9));
+    let reach = random.pick(&[3, 25, 250, usize::from(LARGEST)]);
+    let classes = (0..rings).map(|_| match random.below(8) < share {
+        true => POLYGON,
+        false => HOLE,
+    });
+    let classes: Vec<u32> = classes.collect();
+    let numbered = (0..).zip(&classes);
+    let polygons: Vec<u32> = numbered
+        .filter_map(|(number, &class)| (class == POLYGON).then(|| number))
+        .collect();
+    let mut set = RingSet::default();
+    for (number, &class) in (0..).zip(&classes) {
+        let owner = match class {
+            POLYGON => number,
+            _ if polygons.is_empty() || random.once_in(4) => NOBODY,
+            _ => random.pick(&polygons),
+        };
+        let words = 2 * random.between(3, 12);
+        let mut ring: Vec<u16> = (0..words)
+            .map(|_| random.between(0, reach) as u16)
+            .collect();
+        ring.extend_from_within(..2);
+        set.push(&ring, class, owner);
+        if random.once_in(4) {
+            let points = random.between(1, 3);
+            extend(random, &mut set.points, 2 * points);
+        }
+    }
+    for _ in 0..random.below(rings + 1) {
+        let [from, to] = [0; 2].map(|_| 4 * random.below(rings));
+        set.directory.copy_within(from..from + 2, to);
+    }
+    if random.once_in(3) {
+        let [words, more_words] = [0; 2].map(|_| random.below(9));
+        extend(random, &mut set.points, words);
+        extend(random, &mut set.directory, more_words);
+    }
+    set
+}
+
+/// So many words more, of 16 bits.
+fn extend<W: From<u16>>(random: &mut Random, words: &mut Vec<W>, count: usize) {
+    words.extend((0..count).map(|_| W::from(random.next() as u16)));
+}
+
+/// The bound of points, where the count alone decides: one ring of 67,108,864 points, one of a point more, and four
+/// rings of as many points as may be, whose text has more than 2^32 bytes.
+pub fn most_points(tally: &mut Tally, random: &mut Random) {
+    let mut points = EQUALLY_LONG.repeat(MOST_POINTS / 4);
+    let end = points.len();
+    points[end - 2..].copy_from_slice(&EQUALLY_LONG[..2]);
+    points.extend(&EQUALLY_LONG[..2]);
+    let mut set = RingSet {
+        points,
+        ..RingSet::default()
+    };
+    for (rings, more) in [(1, 0), (1, 1), (4, 0)] {
+        let count = (MOST_POINTS + more) as u32;
+        let records = (0..rings).map(|number| [0, count, POLYGON, number]);
+        set.directory = records.flatten().collect();
+        set.rings = rings;
+        let expected = match more {
+            0 => Expected::Long(most_bytes(rings)),
+            _ => Expected::Faulty,
+        };
+        compare_set(tally, random, &set, expected);
+    }
+}
+
+/// A round of four points, each of which has 16 bytes in a text, the comma between two among them.
+const EQUALLY_LONG: [u16; 8] = [8_191, 8_189, 8_187, 8_185, 8_183, 8_181, 8_179, 8_177];
+
+/// The bytes of so many polygons of as many such points as may be: those of rings of five points, and 16 for each
+/// point more.
+fn most_bytes(rings: u32) -> u64 {
+    let mut set = RingSet::default();
+    for number in 0..rings {
+        let ring = [&EQUALLY_LONG[..], &EQUALLY_LONG[..2]].concat();
+        set.push(&ring, POLYGON, number);
+    }
+    let bytes = set.text().map_or(0, |text| text.len());
+    bytes as u64 + u64::from(rings) * 16 * (MOST_POINTS as u64 - 5)
+}
