@@ -11,9 +11,9 @@ use lib.ListN.{length, getD}
 use borrow.Author.Tests.{lt-ltb, le-ltb, ltb-true}
 use Rattle.error.specs.declared.Refusal.{Refusal}
 use Rattle.error.specs.declared.Refusal.the-variants.{FewThresholds, NoPair}
-use Rattle.scan.specs.Grid.{gridFit}
-use Rattle.scan.specs.declared.GridFit.{GridFit}
-use Rattle.scan.specs.declared.GridFit.the-variants as fit-is
+use Rattle.grid.specs.Grid.{gridFit}
+use Rattle.grid.specs.declared.GridFit.{GridFit}
+use Rattle.grid.specs.declared.GridFit.the-variants as fit-is
 use Rattle.cells.specs.declared.Level.{Level}
 use Rattle.bands.specs.Bands.{listFit, bandFit, fitPair}
 use Rattle.bands.specs.declared.BandFit.{BandFit}

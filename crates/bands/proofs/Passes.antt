@@ -15,11 +15,11 @@ use Rattle.scope.specs.Room.{openWords, linkWords, bandOpenWords, bandLinkWords
 use Rattle.machine.specs.Machine.{Tables, runAfter, runOver}
 use Rattle.lines.specs.Values.{tablesOf}
 use Rattle.lines.specs.declared.Progress.{Progress}
-use Rattle.scan.specs.Grid.{Sized}
+use Rattle.grid.specs.Grid.{Sized}
 use Rattle.scan.specs.Rows.{Marked}
 use Rattle.scan.specs.Scanned.{scanned}
 use Rattle.scan.specs.declared.Counts.{Counts}
-use Rattle.scan.specs.declared.GridFit.the-variants as fit-is
+use Rattle.grid.specs.declared.GridFit.the-variants as fit-is
 use Rattle.isoringbuilder.specs.Verdict.{Verdict, refused, passes, afterGrid}
 use Rattle.isoringbuilder.specs.Pass.{stitchedTables, passTable}
 use Rattle.bands.specs.Bands.{bandVerdict}

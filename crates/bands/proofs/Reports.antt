@@ -17,9 +17,9 @@ use Rattle.scope.specs.Tables.{zeroed}
 use Rattle.machine.specs.Machine.{Tables}
 use Rattle.packing.specs.Cleared.{cleared}
 use Rattle.packing.proofs.Laws.{cleared-is-zeroed}
-use Rattle.scan.specs.Grid.{Sized}
-use Rattle.scan.specs.declared.GridFit.{GridFit}
-use Rattle.scan.specs.declared.GridFit.the-variants as fit-is
+use Rattle.grid.specs.Grid.{Sized}
+use Rattle.grid.specs.declared.GridFit.{GridFit}
+use Rattle.grid.specs.declared.GridFit.the-variants as fit-is
 use Rattle.isoringbuilder.specs.Verdict.{Verdict, refused, passes, afterGrid}
 use Rattle.isoringbuilder.specs.Answers.{workAfter}
 use Rattle.isoringbuilder.specs.Pass.{stitchedTables, passTable}

@@ -16,7 +16,7 @@ use Rattle.machine.specs.Machine.{Tables}
 use Rattle.machine.specs.Walk.{walkPoints, walkRecords}
 use Rattle.machine.proofs.Built.{rings-found, points-found, records-found, lines-kept, links-kept}
 use Rattle.laws.proofs.Laws.{rings-are-no-more}
-use Rattle.scan.specs.Grid.{Sized}
+use Rattle.grid.specs.Grid.{Sized}
 use Rattle.scan.proofs.Steps.{segments-are-few}
 use Rattle.isoringbuilder.specs.Pass.{stitchedTables}
 use Rattle.isoringbuilder.proofs.Limits.{outside, segments-fit, points-fit, peak-fits, columns-fit, rows-fit}

@@ -12,10 +12,10 @@ use Rattle.scope.specs.Terrain.{Sheet, atLeast, terrain}
 use Rattle.scope.specs.Drawing.{segmentCount, ringCount, ringsOf, peak}
 use Rattle.scope.specs.Room.{pointCount, bandOpenWords, bandLinkWords, bandPointWords, bandDirectoryWords}
 use Rattle.scope.specs.Tables.{bandPoints, bandRecords}
-use Rattle.scan.specs.Grid.{gridFit}
+use Rattle.grid.specs.Grid.{gridFit}
 use Rattle.scan.specs.Report.{reportFor}
-use Rattle.scan.specs.declared.GridFit.{GridFit}
-use Rattle.scan.specs.declared.GridFit.the-variants as fit-is
+use Rattle.grid.specs.declared.GridFit.{GridFit}
+use Rattle.grid.specs.declared.GridFit.the-variants as fit-is
 use Rattle.scan.specs.declared.FirstReport.{FirstReport}
 use Rattle.scan.specs.declared.FirstReport.the-variants as first-is
 use Rattle.bands.specs.declared.BandFit.{BandFit}

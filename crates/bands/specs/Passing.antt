@@ -12,7 +12,7 @@ use Rattle.scope.specs.Room.{pointWords, directoryWords}
 use Rattle.machine.specs.Machine.{Tables}
 use Rattle.machine.specs.Walk.{walkPoints, walkRecords}
 use Rattle.scan.specs.Rows.{Marked}
-use Rattle.scan.specs.declared.GridFit.the-variants as fit-is
+use Rattle.grid.specs.declared.GridFit.the-variants as fit-is
 use Rattle.isoringbuilder.specs.Verdict.{Verdict, refused, passes}
 use Rattle.isoringbuilder.specs.Pass.{stitchedTables, passTable, packed}
 use Rattle.isoringbuilder.specs.declared.Built.{Built}

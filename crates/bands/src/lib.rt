@@ -1,6 +1,8 @@
 // A band of two thresholds: which refusals come before any room is asked for, both reports, and the stitching passes and the packing that isobands is built on.
 use cells::Level;
 use error::Refusal;
+use grid::GridFit;
+use grid::grid_fit;
 use isoringbuilder::Built;
 use isoringbuilder::SecondReport;
 use isoringbuilder::link_words;
@@ -10,9 +12,7 @@ use packing::clear;
 use packing::write_rings;
 use scan::Counts;
 use scan::FirstReport;
-use scan::GridFit;
 use scan::TILES;
-use scan::grid_fit;
 use scan::scan;
 use stitching::stitch;
 ghost use mathlib.Core.Path.{_≡_};
@@ -21,7 +21,7 @@ ghost use lib.Dec.{ltb};
 ghost use lib.ListN.{length};
 ghost use Rattle.scope.specs.Terrain.{atLeast, terrain};
 ghost use Rattle.machine.specs.Walk.{walkPoints, walkRecords};
-ghost use Rattle.scan.specs.Grid.{gridFit, Sized};
+ghost use Rattle.grid.specs.Grid.{gridFit, Sized};
 ghost use Rattle.scan.specs.Rows.{Marked};
 ghost use Rattle.scan.specs.Scanned.{scanned};
 ghost use Rattle.bands.specs.Bands.{bandFit, fitPair, bandRoomOf, bandFirstReport, ReportedOver, BandReported};

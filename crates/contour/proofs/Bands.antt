@@ -14,8 +14,8 @@ use Rattle.scope.specs.Room.{pointCount, directoryWords, bandOpenWords, bandLin
 use Rattle.scope.specs.Tables.{packedPoints, bandPoints, bandRecords}
 use Rattle.laws.proofs.Edges.{Outside}
 use Rattle.machine.proofs.Built.{packed-points-fill-their-room}
-use Rattle.scan.specs.declared.GridFit.{GridFit}
-use Rattle.scan.specs.declared.GridFit.the-variants as fit-is
+use Rattle.grid.specs.declared.GridFit.{GridFit}
+use Rattle.grid.specs.declared.GridFit.the-variants as fit-is
 use Rattle.scan.specs.declared.FirstReport.the-variants as first-is
 use Rattle.scan.proofs.Samples.{terrain-outside}
 use Rattle.isoringbuilder.specs.Verdict.{passes}

@@ -15,9 +15,9 @@ use Rattle.laws.proofs.Conservation.{Each}
 use Rattle.readable.proofs.Packed.{Fit}
 use Rattle.readable.proofs.Laws.{rings-fit, contour-passes, band-passes}
 use Rattle.readable.proofs.Text.{Told, told}
-use Rattle.scan.specs.Grid.{Sized, gridFit}
-use Rattle.scan.specs.declared.GridFit.the-variants as fit-is
-use Rattle.scan.proofs.Laws.{a-grid-that-fits-is-sized}
+use Rattle.grid.specs.Grid.{Sized, gridFit}
+use Rattle.grid.specs.declared.GridFit.the-variants as fit-is
+use Rattle.grid.proofs.Laws.{a-grid-that-fits-is-sized}
 use Rattle.isoringbuilder.specs.Answers.{above}
 use Rattle.isoringbuilder.specs.declared.Built.{Built}
 use Rattle.isoringbuilder.specs.declared.Built.the-variants as built-is

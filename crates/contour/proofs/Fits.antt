@@ -9,9 +9,9 @@ use lib.Dec.{ltb}
 use Rattle.error.specs.Number.{refusalNumber}
 use Rattle.error.specs.declared.Refusal.{Refusal}
 use Rattle.error.specs.declared.Refusal.the-variants.{FewThresholds, NoPair}
-use Rattle.scan.specs.Grid.{gridFit}
-use Rattle.scan.specs.declared.GridFit.{GridFit}
-use Rattle.scan.specs.declared.GridFit.the-variants as fit-is
+use Rattle.grid.specs.Grid.{gridFit}
+use Rattle.grid.specs.declared.GridFit.{GridFit}
+use Rattle.grid.specs.declared.GridFit.the-variants as fit-is
 use Rattle.bands.specs.Bands.{listFit, bandFit}
 use Rattle.contour.proofs.Lowest.{three, first-exactly, second-exactly, third-exactly, of-three, less-exactly, enough-exactly, Early, fit-number}
 use Rattle.contour.proofs.Theorems.{grid-early}

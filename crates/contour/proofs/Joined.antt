@@ -15,10 +15,10 @@ use Rattle.error.specs.declared.Refusal.the-variants.{OpenShort, LinksShort}
 use Rattle.scope.specs.Terrain.{Sheet}
 use Rattle.scope.specs.Drawing.{segmentCount, peak}
 use Rattle.scope.specs.Room.{openWords, linkWords, bandOpenWords, bandLinkWords}
-use Rattle.scan.specs.Grid.{gridFit}
+use Rattle.grid.specs.Grid.{gridFit}
 use Rattle.scan.specs.Report.{roomOf, reportFor, firstReport}
-use Rattle.scan.specs.declared.GridFit.{GridFit}
-use Rattle.scan.specs.declared.GridFit.the-variants as fit-is
+use Rattle.grid.specs.declared.GridFit.{GridFit}
+use Rattle.grid.specs.declared.GridFit.the-variants as fit-is
 use Rattle.scan.specs.declared.FirstReport.{FirstReport}
 use Rattle.scan.specs.declared.FirstReport.the-variants as first-is
 use Rattle.isoringbuilder.specs.Verdict.{refused, passes, afterGrid, workVerdict}

@@ -8,8 +8,8 @@ use lib.ListN.{length, drop, replicate, drop-of-length-le}
 use Rattle.error.specs.declared.Refusal.{Refusal}
 use Rattle.error.specs.declared.Refusal.the-variants.{OpenShort, LinksShort, PointsShort, DirectoryShort}
 use Rattle.scope.specs.Tables.{zeroed, written}
-use Rattle.scan.specs.declared.GridFit.{GridFit}
-use Rattle.scan.specs.declared.GridFit.the-variants as fit-is
+use Rattle.grid.specs.declared.GridFit.{GridFit}
+use Rattle.grid.specs.declared.GridFit.the-variants as fit-is
 use Rattle.isoringbuilder.specs.Verdict.{Verdict, refused, passes, afterGrid}
 use Rattle.isoringbuilder.specs.Answers.{workAfter, outputAfter}
 use Rattle.isoringbuilder.specs.declared.Built.{Built}

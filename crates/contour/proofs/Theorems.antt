@@ -20,10 +20,10 @@ use Rattle.scope.specs.Tables.{packedPoints, linePoints, bareRecords, contourRe
 use Rattle.laws.proofs.Edges.{Outside}
 use Rattle.laws.proofs.Laws.{the-peak-is-low, the-peak-is-highest, the-peak-is-reached}
 use Rattle.machine.proofs.Built.{packed-points-fill-their-room, records-fill-their-room}
-use Rattle.scan.specs.Grid.{badSide, badCount, gridFit}
+use Rattle.grid.specs.Grid.{badSide, badCount, gridFit}
 use Rattle.scan.specs.Report.{roomOf, reportFor, firstReport}
-use Rattle.scan.specs.declared.GridFit.{GridFit}
-use Rattle.scan.specs.declared.GridFit.the-variants as fit-is
+use Rattle.grid.specs.declared.GridFit.{GridFit}
+use Rattle.grid.specs.declared.GridFit.the-variants as fit-is
 use Rattle.scan.specs.declared.FirstReport.the-variants as first-is
 use Rattle.scan.proofs.Samples.{terrain-outside}
 use Rattle.isoringbuilder.specs.Verdict.{Verdict, refused, passes, workVerdict, roomVerdict, outputVerdict}

@@ -26,9 +26,9 @@ use Rattle.packing.specs.Cleared.{cleared}
 use Rattle.packing.proofs.Laws.{stores-from-the-start, cleared-is-zeroed}
 use Rattle.extents.specs.Records.{recordCount}
 use Rattle.regions.specs.Regions.{countedRings, sortedRecords, Workable}
-use Rattle.scan.specs.Grid.{Sized}
-use Rattle.scan.specs.declared.GridFit.{GridFit}
-use Rattle.scan.specs.declared.GridFit.the-variants as fit-is
+use Rattle.grid.specs.Grid.{Sized}
+use Rattle.grid.specs.declared.GridFit.{GridFit}
+use Rattle.grid.specs.declared.GridFit.the-variants as fit-is
 use Rattle.isoringbuilder.specs.Verdict.{Verdict, refused, passes, afterGrid}
 use Rattle.isoringbuilder.specs.Answers.{workAfter, outputAfter}
 use Rattle.isoringbuilder.specs.Pass.{stitchedTables, passTable, packed}

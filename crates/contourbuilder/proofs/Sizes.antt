@@ -17,7 +17,7 @@ use Rattle.laws.proofs.Total.{total}
 use Rattle.laws.proofs.Conservation.{Each}
 use Rattle.laws.proofs.Rings.{Within, RingLaw}
 use Rattle.laws.proofs.Laws.{rings-are-rings, points-are-segments-and-rings}
-use Rattle.scan.specs.Grid.{Sized}
+use Rattle.grid.specs.Grid.{Sized}
 use Rattle.scan.proofs.Steps.{segments-are-few}
 use Rattle.isoringbuilder.proofs.Limits.{outside}
 use Rattle.contourbuilder.proofs.Laid.{Drawn, steps}

@@ -23,10 +23,10 @@ use Rattle.machine.specs.Walk.{walkWords, walkPoints, walkRecords}
 use Rattle.machine.proofs.Built.{points-found, records-found, lines-kept, links-kept, packed-points-fill-their-room, records-fill-their-room}
 use Rattle.packing.specs.Cleared.{cleared}
 use Rattle.packing.proofs.Laws.{stores-from-the-start, cleared-is-zeroed}
-use Rattle.scan.specs.Grid.{gridFit, Sized}
-use Rattle.scan.specs.declared.GridFit.{GridFit}
-use Rattle.scan.specs.declared.GridFit.the-variants as fit-is
-use Rattle.scan.proofs.Laws.{a-grid-that-fits-is-sized}
+use Rattle.grid.specs.Grid.{gridFit, Sized}
+use Rattle.grid.specs.declared.GridFit.{GridFit}
+use Rattle.grid.specs.declared.GridFit.the-variants as fit-is
+use Rattle.grid.proofs.Laws.{a-grid-that-fits-is-sized}
 use Rattle.isoringbuilder.specs.Verdict.{Verdict, refused, passes, afterGrid, workVerdict, roomVerdict, outputVerdict}
 use Rattle.isoringbuilder.specs.Answers.{workAfter, outputAfter, reported, built, above, onEntry, onOutputs, SecondReported, RingsBuilt}
 use Rattle.isoringbuilder.specs.Pass.{stitchedTables, passed, passTable, packed, Passed, Packed}

@@ -11,7 +11,7 @@ use Rattle.scope.specs.Drawing.{segmentsOf, segmentCount, ringsOf, ringCount, p
 use Rattle.laws.proofs.Edges.{Outside}
 use Rattle.laws.proofs.Laws.{the-peak-is-low, rings-are-no-more}
 use Rattle.machine.specs.Machine.{mark}
-use Rattle.scan.specs.Grid.{Sized}
+use Rattle.grid.specs.Grid.{Sized}
 use Rattle.scan.proofs.Samples.{terrain-outside}
 use Rattle.scan.proofs.Steps.{segments-are-few}
 

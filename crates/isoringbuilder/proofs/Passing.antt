@@ -20,10 +20,10 @@ use Rattle.machine.specs.Walk.{walkPoints, walkRecords}
 use Rattle.machine.proofs.Built.{rings-found, points-found, records-found, lines-kept, links-kept}
 use Rattle.lines.specs.Values.{tablesOf}
 use Rattle.lines.specs.declared.Progress.{Progress}
-use Rattle.scan.specs.Grid.{gridFit, Sized}
-use Rattle.scan.specs.declared.GridFit.{GridFit}
-use Rattle.scan.specs.declared.GridFit.the-variants as fit-is
-use Rattle.scan.proofs.Laws.{a-grid-that-fits-is-sized}
+use Rattle.grid.specs.Grid.{gridFit, Sized}
+use Rattle.grid.specs.declared.GridFit.{GridFit}
+use Rattle.grid.specs.declared.GridFit.the-variants as fit-is
+use Rattle.grid.proofs.Laws.{a-grid-that-fits-is-sized}
 use Rattle.isoringbuilder.specs.Verdict.{Verdict, refused, passes, afterGrid, workVerdict}
 use Rattle.isoringbuilder.specs.Pass.{stitchedTables, passed, passTable, Passed}
 use Rattle.isoringbuilder.specs.declared.Pass.{Pass}

@@ -7,9 +7,9 @@ use Rattle.error.specs.declared.Refusal.the-variants.{OpenShort, LinksShort, Po
 use Rattle.scope.specs.Terrain.{Sheet}
 use Rattle.scope.specs.Drawing.{segmentCount, ringCount, peak}
 use Rattle.scope.specs.Room.{openWords, linkWords, pointWords, directoryWords}
-use Rattle.scan.specs.Grid.{gridFit}
-use Rattle.scan.specs.declared.GridFit.{GridFit}
-use Rattle.scan.specs.declared.GridFit.the-variants as fit-is
+use Rattle.grid.specs.Grid.{gridFit}
+use Rattle.grid.specs.declared.GridFit.{GridFit}
+use Rattle.grid.specs.declared.GridFit.the-variants as fit-is
 
 pub data Verdict : Type 0 where
   refused : Refusal → Verdict

@@ -2,12 +2,12 @@
 // ring or none. Neither asks anything of the caller: bad sides, lengths or room draw the lowest refusal that applies.
 use cells::Level;
 use error::Refusal;
+use grid::GridFit;
+use grid::grid_fit;
 use packing::RECORD_STRIDE;
 use packing::clear;
 use packing::write_rings;
-use scan::GridFit;
 use scan::TILES;
-use scan::grid_fit;
 use scan::scan;
 use stitching::stitch;
 ghost use mathlib.Core.Path.{_≡_};
@@ -15,7 +15,7 @@ ghost use Prim.Native.Nat.{_≤_};
 ghost use lib.ListN.{length};
 ghost use Rattle.scope.specs.Limits.{sideLimit};
 ghost use Rattle.scope.specs.Room.{openWords, linkWords};
-ghost use Rattle.scan.specs.Grid.{gridFit};
+ghost use Rattle.grid.specs.Grid.{gridFit};
 ghost use Rattle.isoringbuilder.specs.Answers.{SecondReported, RingsBuilt};
 ghost use Rattle.isoringbuilder.specs.Pass.{Passed, Packed};
 

@@ -17,3 +17,4 @@ pub mod Tips
 pub mod Rules
 pub mod Peak
 pub mod Laws
+pub mod Tests

@@ -1,14 +1,15 @@
 // The code of stitching over two lent slices of words, the open table and the link table: the five rules, and the lines that a cell meets. Every function
 // is total, as the table machine is, which each contract cites: a word past a table's end reads as 0 and is not stored.
+use lent::MARK;
+use lent::put;
+use lent::word;
 use tables::Slot;
 use tables::column_word;
-use tables::put;
 use tables::put_link;
 use tables::put_next;
 use tables::put_slot;
 use tables::release;
 use tables::slot_at;
-use tables::word;
 use tables::word_of;
 ghost use mathlib.Core.Path.{_≡_};
 ghost use mathlib.Core.Bool.{cond};
@@ -18,9 +19,6 @@ ghost use Rattle.machine.specs.Machine.{mark, wordOf, withNext, started, append
 ghost use Rattle.lines.specs.Values.{tablesOf, edgesOf, connected};
 
 pub mod tables;
-
-// No link has this number or a larger one. The last link of a ring holds it, with the first link of the next ring added.
-pub const MARK: u32 = 2147483648;
 
 // How far stitching has come: the open lines, the rings, the first ring's first link, and the last ring's last link.
 pub struct Progress {

@@ -1,6 +1,7 @@
 // The words of the open table and of the link table: a word, a slot, a link, and the release of a slot.
+use lent::put;
+use lent::word;
 ghost use mathlib.Core.Path.{_≡_};
-ghost use lib.ListN.{getD, set};
 ghost use Rattle.machine.specs.Machine.{wordOf, slotWord, columnWord, linkPoint, withNext, withLink, moved, released};
 ghost use Rattle.lines.specs.Values.{slotAt, slotPut};
 
@@ -10,22 +11,6 @@ pub struct Slot {
     pub last: u32,
     pub end: u32,
     pub size: u32,
-}
-
-// The word of a table at an index, and 0 past the end.
-pub fn word(table: &[u32], i: usize) -> u32
-    ensures { λ r. ⌜ r ≡ getD (now (table .entry)) i 0 ⌝ }
-{
-    if i < table.len() { table[i] } else { 0 }
-}
-
-// Stores a word of a table. Past the end nothing is stored.
-pub fn put(table: &mut [u32], i: usize, value: u32)
-    ensures { λ _. ⌜ now (table .exit) ≡ set (now (table .entry)) i value ⌝ }
-{
-    if i < table.len() {
-        table[i] = value;
-    }
 }
 
 // A sum as a word holds it, modulo 2^32.

@@ -1,15 +1,15 @@
 // What a build writes once all rings are closed: the points and the directory, by one walk along the links, and the zeros that the work tables are left
 // with. Every function is total: a word past a table's end reads as 0 and is not stored.
+use lent::MARK;
+use lent::put;
+use lent::word;
 ghost use mathlib.Core.Path.{_≡_};
 ghost use Prim.Native.Nat.{_%_, _^_};
-ghost use lib.ListN.{getD, set};
+ghost use lib.ListN.{set};
 ghost use lib.Seq.{sets};
 ghost use Rattle.machine.specs.Machine.{linkNext};
 ghost use Rattle.machine.specs.Walk.{pointWords, walkPoints, recordWords, walkRecords};
 ghost use Rattle.packing.specs.Cleared.{cleared};
-
-// The last link of a ring holds this number, with the first link of the next ring added. No link has this number or a larger one.
-pub const MARK: u32 = 2147483648;
 
 // The words of a directory record: first point, point count, class, owner.
 pub const RECORD_STRIDE: usize = 4;
@@ -19,22 +19,6 @@ const BARE_RING: u32 = 2;
 
 // The owner of a ring that has none, in a directory record.
 const NO_OWNER: u32 = 4294967295;
-
-// The word of a table at an index, and 0 past the end.
-pub fn word(table: &[u32], i: usize) -> u32
-    ensures { λ r. ⌜ r ≡ getD (now (table .entry)) i 0 ⌝ }
-{
-    if i < table.len() { table[i] } else { 0 }
-}
-
-// Stores a word of a table. Past the end nothing is stored.
-fn put(table: &mut [u32], i: usize, value: u32)
-    ensures { λ _. ⌜ now (table .exit) ≡ set (now (table .entry)) i value ⌝ }
-{
-    if i < table.len() {
-        table[i] = value;
-    }
-}
 
 // Stores a word of the points. Past the end nothing is stored.
 fn put_coordinate(points: &mut [u16], i: usize, value: u16)

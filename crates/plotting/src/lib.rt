@@ -2,11 +2,11 @@
 // past a table's end reads as 0 and is not stored.
 use cells::Level;
 use cells::indexed_point;
-use packing::MARK;
+use lent::MARK;
+use lent::word;
 use packing::RECORD_STRIDE;
 use packing::next_link;
 use packing::put_record;
-use packing::word;
 use smoothing::Placement;
 use smoothing::line_vertex;
 ghost use mathlib.Core.Path.{_≡_};

@@ -1,8 +1,9 @@
 // The check of a ring set: whether words are points and a directory such as a reader takes, which is number 9 of document 01. It takes any words whatever.
+use lent::word;
 ghost use mathlib.Core.Path.{_≡_};
 ghost use mathlib.Core.Bool.{_||_};
 ghost use Prim.Native.Nat.{_<_, _%_};
-ghost use lib.ListN.{length, getD};
+ghost use lib.ListN.{length};
 ghost use Rattle.scope.specs.Limits.{coordinateLimit};
 ghost use Rattle.scope.specs.Area as Area;
 ghost use Rattle.scope.specs.GeoJson.{firstAt, countAt, classAt, ownerAt, unclosed, ownedByAnother, ownedByNone, recordRefused, ringSetRefused};
@@ -25,13 +26,6 @@ pub struct Record {
     pub count: u32,
     pub class: u32,
     pub owner: u32,
-}
-
-// The word of a table at an index, and 0 past the end.
-fn word(table: &[u32], i: usize) -> u32
-    ensures { λ r. ⌜ r ≡ getD (now (table .entry)) i 0 ⌝ }
-{
-    if i < table.len() { table[i] } else { 0 }
 }
 
 // Record `k` of a directory; its words are 0 past the end.

@@ -15,7 +15,7 @@ use Rattle.words.proofs.Packing.{packed-alike}
 use Rattle.words.proofs.Laws.{none-packed, packed-trimmed}
 use Rattle.laws.proofs.Edges.{Outside}
 use Rattle.laws.proofs.Laws.{nothing-above-outside}
-use Rattle.scan.specs.Grid.{Sized}
+use Rattle.grid.specs.Grid.{Sized}
 use Rattle.scan.specs.Rows.{wordFrom}
 
 -- a part of a row is among the values

@@ -1,5 +1,4 @@
 -- What the scan answers, by document 01's definitions.
-pub mod Grid
 pub mod Rows
 pub mod Scanned
 pub mod Report

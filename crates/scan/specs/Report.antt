@@ -5,9 +5,9 @@ use lib.Ieee.{Float}
 use lib.ListN.{length}
 use Rattle.scope.specs.Terrain.{Sheet, atLeast, terrain}
 use Rattle.scope.specs.Drawing.{segmentCount, peak}
-use Rattle.scan.specs.Grid.{gridFit}
-use Rattle.scan.specs.declared.GridFit.{GridFit}
-use Rattle.scan.specs.declared.GridFit.the-variants as fit-is
+use Rattle.grid.specs.Grid.{gridFit}
+use Rattle.grid.specs.declared.GridFit.{GridFit}
+use Rattle.grid.specs.declared.GridFit.the-variants as fit-is
 use Rattle.scan.specs.declared.FirstReport.{FirstReport}
 use Rattle.scan.specs.declared.FirstReport.the-variants as report-is
 

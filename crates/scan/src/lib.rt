@@ -1,8 +1,11 @@
-// The scan of a grid: whether the grid fits, the samples of its sheet, and the first report, which counts segments and the peak of open lines
+// The scan of a grid: the samples of its sheet, and the first report, which counts segments and the peak of open lines
 // without work tables.
 use cells::Level;
 use cells::change_of;
 use error::Refusal;
+use grid::GridFit;
+use grid::SIDE_LIMIT;
+use grid::grid_fit;
 use words::Pane;
 use words::SAMPLES;
 use words::bit_at;
@@ -19,43 +22,10 @@ ghost use Rattle.scope.specs.Limits.{sideLimit};
 ghost use Rattle.scope.specs.Terrain.{atLeast, terrain};
 ghost use Rattle.scope.specs.Cells.{opened, closed};
 ghost use Rattle.words.specs.Panes.{Shows, changesIn};
-ghost use Rattle.scan.specs.Grid.{Sized, gridFit};
+ghost use Rattle.grid.specs.Grid.{Sized, gridFit};
 ghost use Rattle.scan.specs.Rows.{wordFrom, Kept, tileOf, Noted, Marked};
 ghost use Rattle.scan.specs.Scanned.{Drawn, countsAfter, scanned};
 ghost use Rattle.scan.specs.Report.{firstReport};
-
-// The most columns and the most rows of a grid.
-pub const SIDE_LIMIT: usize = 4096;
-
-// Whether a grid can be scanned.
-pub enum GridFit {
-    // both sides are within the limit, and there is a value for each sample
-    Fits,
-    // a side is not within the limit, or else the number of values is not that of the samples
-    Refused(Refusal),
-}
-
-// Whether a grid of these sides and this many values fits, or the lowest refusal that applies. The sides are tested before they are multiplied.
-pub fn grid_fit(count: usize, dx: usize, dy: usize) -> GridFit
-    ensures { λ r. ⌜ r ≡ gridFit count dx dy ⌝ }
-{
-    if dx == 0 {
-        return GridFit::Refused(Refusal::BadSide);
-    }
-    if SIDE_LIMIT < dx {
-        return GridFit::Refused(Refusal::BadSide);
-    }
-    if dy == 0 {
-        return GridFit::Refused(Refusal::BadSide);
-    }
-    if SIDE_LIMIT < dy {
-        return GridFit::Refused(Refusal::BadSide);
-    }
-    if count != dx * dy {
-        return GridFit::Refused(Refusal::BadDimension);
-    }
-    GridFit::Fits
-}
 
 // The samples of row `r` + 1 of the sheet on the right of the sixty-four cells from cell `c` on. The sheet is counted from one column and one row outside
 // the grid, and nothing outside the grid is above.

@@ -19,8 +19,9 @@ use Rattle.laws.proofs.Edges.{Outside}
 use Rattle.scan.specs.Rows.{Quiet}
 use Rattle.scan.proofs.Rows.{nothing-active-outside, an-active-cell-is-inside, Unseen, Next, unseen-end}
 use Rattle.machine.specs.Machine.{Run, drawStrokes, drawCell, runAfter, runOver}
-use Rattle.stitching.specs.Values.{numberDrawn, cellsDrawn, rowDrawn}
-use Rattle.stitching.proofs.Indexes.{links-fit}
+use Rattle.drawing.specs.Values.{numberDrawn}
+use Rattle.stitching.specs.Rows.{cellsDrawn, rowDrawn}
+use Rattle.drawing.proofs.Indexes.{links-fit}
 
 module _ (A : Sheet) (dx : ℕ) where
   -- ---- one cell more

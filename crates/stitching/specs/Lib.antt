@@ -1,2 +1,2 @@
 -- The stitching pass as the table machine has it.
-pub mod Values
+pub mod Rows

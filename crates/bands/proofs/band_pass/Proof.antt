@@ -3,7 +3,7 @@
 use mathlib.Core.Path.{refl}
 use native.Mathlib.Omega.{arith}
 use Rattle.scan.specs.Scanned.{scanned}
-use Rattle.scan.proofs.Laws.{a-grid-that-fits-is-sized}
+use Rattle.grid.proofs.Laws.{a-grid-that-fits-is-sized}
 use Rattle.bands.proofs.Passes.{open-need, link-need, lines-short, links-short, done}
 use borrow.Author.Needs.{needs}
 use Rattle.bands.proofs.band_pass.Statement.{statement}

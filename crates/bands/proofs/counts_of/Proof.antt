@@ -1,6 +1,6 @@
 -- `bands::counts_of` meets its contract, which is the scan's. Assumes nothing.
 use mathlib.Core.Path.{refl}
-use Rattle.scan.proofs.Laws.{a-grid-that-fits-is-sized}
+use Rattle.grid.proofs.Laws.{a-grid-that-fits-is-sized}
 use borrow.Author.Needs.{needs}
 use Rattle.bands.proofs.counts_of.Statement.{statement}
 use Rattle.bands.proofs.counts_of.Tie as tie

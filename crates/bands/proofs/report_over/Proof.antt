@@ -2,7 +2,7 @@
 -- tables are cleared. Assumes nothing.
 use mathlib.Core.Path.{refl}
 use native.Mathlib.Omega.{arith}
-use Rattle.scan.proofs.Laws.{a-grid-that-fits-is-sized}
+use Rattle.grid.proofs.Laws.{a-grid-that-fits-is-sized}
 use Rattle.bands.proofs.Reports.{band-done, report-refused, counts-fit, report-done}
 use borrow.Author.Needs.{needs}
 use Rattle.bands.proofs.report_over.Statement.{statement}

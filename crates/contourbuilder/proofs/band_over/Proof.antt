@@ -2,7 +2,7 @@
 -- the owners found, and both work tables are cleared. Assumes nothing.
 use mathlib.Core.Path.{refl, _∙_}
 use native.Mathlib.Omega.{arith}
-use Rattle.scan.proofs.Laws.{a-grid-that-fits-is-sized}
+use Rattle.grid.proofs.Laws.{a-grid-that-fits-is-sized}
 use Rattle.bands.proofs.Reports.{band-done, counts-fit}
 use Rattle.contourbuilder.proofs.Banded.{isobands-refused, band-ownable, isobands-done}
 use borrow.Author.Needs.{needs}

@@ -5,7 +5,7 @@ use native.Mathlib.Omega.{arith}
 use Rattle.scope.specs.Room.{openWords, linkWords}
 use Rattle.scan.specs.Scanned.{scanned}
 use Rattle.scan.specs.declared.Counts.{Counts}
-use Rattle.scan.proofs.Laws.{a-grid-that-fits-is-sized}
+use Rattle.grid.proofs.Laws.{a-grid-that-fits-is-sized}
 use Rattle.isoringbuilder.proofs.Passing.{lines-short, links-short, done}
 use borrow.Author.Needs.{needs}
 use Rattle.isoringbuilder.proofs.pass_over.Statement.{statement}

@@ -4,7 +4,7 @@ use mathlib.Core.Path.{refl, sym, _∙_}
 use borrow.Author.Needs.{needs}
 use Rattle.scan.specs.Scanned.{scanned}
 use Rattle.scan.specs.Report.{roomOf, reportFor, firstReport}
-use Rattle.scan.proofs.Laws.{a-grid-that-fits-is-sized}
+use Rattle.grid.proofs.Laws.{a-grid-that-fits-is-sized}
 use Rattle.scan.proofs.first_report.Statement.{statement}
 use Rattle.scan.proofs.first_report.Tie as tie
 

@@ -9,7 +9,8 @@ use Rattle.scope.specs.Limits.{sideLimit}
 use Rattle.scope.specs.Terrain.{atLeast, terrain}
 use Rattle.scan.proofs.Samples.{terrain-outside}
 use Rattle.scan.proofs.Rows.{Unseen, unseen-begin, unseen-next}
-use Rattle.stitching.specs.Values.{runOf, cellsDrawn}
+use Rattle.drawing.specs.Values.{runOf}
+use Rattle.stitching.specs.Rows.{cellsDrawn}
 use Rattle.stitching.proofs.Steps.{word-few, active-inside, active-drawn, word-drawn}
 use Rattle.stitching.proofs.draw_changes.Statement.{statement}
 use Rattle.stitching.proofs.draw_changes.Tie as tie

@@ -12,7 +12,7 @@ use Rattle.scan.specs.Rows.{Kept}
 use Rattle.scan.proofs.Samples.{terrain-outside}
 use Rattle.scan.proofs.Rows.{no-words-above}
 use Rattle.machine.specs.Machine.{runAfter, runOver}
-use Rattle.stitching.specs.Values.{runOf}
+use Rattle.drawing.specs.Values.{runOf}
 use Rattle.stitching.proofs.Steps.{run-begins, next-row, run-ends, a-row-more-fits}
 use Rattle.stitching.proofs.stitch.Statement.{statement}
 use Rattle.stitching.proofs.stitch.Tie as tie

@@ -9,7 +9,8 @@ use Rattle.scope.specs.Limits.{sideLimit}
 use Rattle.scope.specs.Terrain.{atLeast, terrain}
 use Rattle.scan.proofs.Samples.{terrain-outside}
 use Rattle.scan.proofs.Rows.{Walked, walk-begins, walk-goes-on, walk-goes-over, walk-ends, pane-there, a-tile-has-a-mark}
-use Rattle.stitching.specs.Values.{runOf, rowDrawn}
+use Rattle.drawing.specs.Values.{runOf}
+use Rattle.stitching.specs.Rows.{rowDrawn}
 use Rattle.stitching.proofs.Steps.{row-begun, row-few, word-more, quiet-word-more, row-drawn}
 use Rattle.stitching.proofs.stitch_row.Statement.{statement}
 use Rattle.stitching.proofs.stitch_row.Tie as tie

@@ -10,8 +10,8 @@ use native.Mathlib.Omega.{arith}
 use Rattle.scope.specs.Cells.{Side, Left, Right, Top, Bottom, _⟶_, pointOf, pointIndex, caseTable, drawn}
 use Rattle.cells.proofs.Laws.{past-the-table-nothing-is-drawn}
 use Rattle.machine.specs.Machine.{Tables, Entry, entryOf, drawStroke, drawStrokes}
-use Rattle.stitching.specs.declared.Points.{Points}
-use Rattle.stitching.specs.Values.{pointsOf, numberDrawn}
+use Rattle.drawing.specs.declared.Points.{Points}
+use Rattle.drawing.specs.Values.{pointsOf, numberDrawn}
 
 -- the index of the point on a side
 abbrev pub pointAt : Points → Side → ℕ

@@ -1,11 +1,11 @@
--- `stitching::points_of` meets its contract: each point is the definition's, and the index of a point within the grid fits. Assumes nothing.
+-- `drawing::points_of` meets its contract: each point is the definition's, and the index of a point within the grid fits. Assumes nothing.
 use native.Mathlib.Omega.{arith}
 use borrow.Author.Needs.{needs}
 use Rattle.scope.specs.Limits.{sideLimit}
 use Rattle.scope.specs.Cells.{pointOf}
-use Rattle.stitching.proofs.Indexes.{index-fits}
-use Rattle.stitching.proofs.points_of.Statement.{statement}
-use Rattle.stitching.proofs.points_of.Tie as tie
+use Rattle.drawing.proofs.Indexes.{index-fits}
+use Rattle.drawing.proofs.points_of.Statement.{statement}
+use Rattle.drawing.proofs.points_of.Tie as tie
 
 mul-x : tie.Need-mul-x
 unfolding sideLimit

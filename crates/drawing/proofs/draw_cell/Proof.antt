@@ -1,12 +1,12 @@
--- `stitching::draw_cell` meets its contract: each arm draws its number's row of the case table by the rules that the table machine has for those sides, and
+-- `drawing::draw_cell` meets its contract: each arm draws its number's row of the case table by the rules that the table machine has for those sides, and
 -- the numbers that are left have no stroke. Assumes nothing.
 use mathlib.Core.Path.{refl}
 use borrow.Author.Needs.{needs}
 use Rattle.scope.specs.Cells.{Left, Right, Top, Bottom, caseTable, drawn}
 use Rattle.machine.specs.Machine.{drawStroke}
-use Rattle.stitching.proofs.Strokes.{one-stroke, two-strokes, no-stroke}
-use Rattle.stitching.proofs.draw_cell.Statement.{statement}
-use Rattle.stitching.proofs.draw_cell.Tie as tie
+use Rattle.drawing.proofs.Strokes.{one-stroke, two-strokes, no-stroke}
+use Rattle.drawing.proofs.draw_cell.Statement.{statement}
+use Rattle.drawing.proofs.draw_cell.Tie as tie
 
 add-link : tie.Need-add-link
 add-link c = search needs

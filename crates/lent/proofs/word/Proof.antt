@@ -1,9 +1,9 @@
--- `lines::tables::word` meets its contract: past the end a list gives what it is asked to give there. Assumes nothing.
+-- `lent::word` meets its contract: past the end a list gives what it is asked to give there. Assumes nothing.
 use mathlib.Core.Path.{sym}
 use lib.ListN.{List·getD-eq-default}
 use borrow.Author.Needs.{needs}
-use Rattle.lines.proofs.tables.word.Statement.{statement}
-use Rattle.lines.proofs.tables.word.Tie as tie
+use Rattle.lent.proofs.word.Statement.{statement}
+use Rattle.lent.proofs.word.Tie as tie
 
 mul-result : tie.Need-mul-result
 mul-result c = search needs

@@ -1,10 +1,10 @@
--- `scan::grid_fit` meets its contract: each of its tests is one that refuses, and past them the grid fits. Assumes nothing.
+-- `grid::grid_fit` meets its contract: each of its tests is one that refuses, and past them the grid fits. Assumes nothing.
 use native.Mathlib.Nat.{mul-le-mul}
 use native.Mathlib.Omega.{arith}
 use Rattle.scope.specs.Limits.{sideLimit}
-use Rattle.scan.proofs.Laws.{no-columns-are-refused, too-many-columns-are-refused, no-rows-are-refused, too-many-rows-are-refused, a-wrong-count-is-refused, a-right-count-fits}
-use Rattle.scan.proofs.grid_fit.Statement.{statement}
-use Rattle.scan.proofs.grid_fit.Tie as tie
+use Rattle.grid.proofs.Laws.{no-columns-are-refused, too-many-columns-are-refused, no-rows-are-refused, too-many-rows-are-refused, a-wrong-count-is-refused, a-right-count-fits}
+use Rattle.grid.proofs.grid_fit.Statement.{statement}
+use Rattle.grid.proofs.grid_fit.Tie as tie
 
 returns : tie.Need-returns
 returns c = no-columns-are-refused _ _ _ (omega arith)

@@ -5,8 +5,8 @@ use Prim.Native.Nat.{ℕ, _*_, _≤_}
 use lib.Dec.{eqb, ltb}
 use Rattle.error.specs.declared.Refusal.the-variants.{BadSide, BadDimension}
 use Rattle.scope.specs.Limits.{sideLimit}
-use Rattle.scan.specs.declared.GridFit.{GridFit}
-use Rattle.scan.specs.declared.GridFit.the-variants.{Fits, Refused}
+use Rattle.grid.specs.declared.GridFit.{GridFit}
+use Rattle.grid.specs.declared.GridFit.the-variants.{Fits, Refused}
 
 -- number 1: a side is 0 or above 4,096
 unfoldable pub badSide : ℕ → ℕ → Bool

@@ -1,9 +1,9 @@
--- `packing::put` meets its contract: past the end a list stores nothing. Assumes nothing.
+-- `lent::put` meets its contract: past the end a list stores nothing. Assumes nothing.
 use mathlib.Core.Path.{sym}
 use lib.Seq.{set-out}
 use borrow.Author.Needs.{needs}
-use Rattle.packing.proofs.put.Statement.{statement}
-use Rattle.packing.proofs.put.Tie as tie
+use Rattle.lent.proofs.put.Statement.{statement}
+use Rattle.lent.proofs.put.Tie as tie
 
 mul-table : tie.Need-mul-table
 mul-table c = search needs

@@ -1,0 +1,3 @@
+-- What the proofs of this crate share: the indexes of points, and the strokes of a cell.
+pub mod Indexes
+pub mod Strokes

@@ -1,0 +1,2 @@
+-- A cell drawn, as the table machine has it.
+pub mod Values

@@ -1,0 +1,2 @@
+-- What callers cite of the test of a grid.
+pub mod Laws

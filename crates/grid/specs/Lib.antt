@@ -1,0 +1,2 @@
+-- When a grid fits, and the first two refusals.
+pub mod Grid
