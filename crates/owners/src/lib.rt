@@ -30,7 +30,7 @@ fn word(table: &[u32], i: usize) -> usize
 }
 
 // The record of the ring of a number.
-fn rank_at(table: &[u32], n: usize, number: usize) -> u32
+pub fn rank_at(table: &[u32], n: usize, number: usize) -> u32
     requires { ⌜ (3 * n ≤ length (now table)) × Permutes (rankOf (now table) n) n × (number < n) ⌝ }
     ensures { λ r. ⌜ RankIs (now (table .entry)) n number r ⌝ }
 {
@@ -219,7 +219,7 @@ fn first_taker(
 }
 
 // The owner of the ring of a number: a polygon owns itself, and any other has the first polygon that takes its ring, or none.
-fn owner_of(
+pub fn owner_of(
     points: &[u16],
     directory: &[u32],
     table: &[u32],

@@ -1,0 +1,2 @@
+-- What handing a build out leaves.
+pub mod HandedOut

@@ -1,0 +1,2 @@
+-- What a build of bare rings or lines leaves to be handed out.
+pub mod Bare

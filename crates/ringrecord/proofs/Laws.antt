@@ -1,0 +1,227 @@
+-- What follows of records and of the words that they stand for, by induction on the records or on four words at a time: lengths, single words, what comes back
+-- of words and of records, and that a call over records has one result. Assumes nothing.
+use mathlib.Core.Path.{_≡_, refl, sym, ap, _∙_}
+use mathlib.Core.Bool.{Bool, true, false, cond}
+use mathlib.Core.List.{List, [], _∷_, _++_}
+use Prim.Native.Nat.{ℕ, zero, suc, _+_, _*_, _≤_, _<_}
+use native.Mathlib.Nat.{zero-add, add-zero}
+use native.Mathlib.Omega.{arith}
+use lib.Dec.{eqb}
+use lib.ListN.{length, getD, take, List·getD-append, List·getD-eq-default}
+use lib.Seq.{length-take-le, take-at, getD-take, getD-append-add}
+use borrow.Author.Tests.{eqb-true, eqb-false, ne-eqb}
+use Rattle.scope.specs.Limits.{recordStride, noOwner}
+use Rattle.scope.specs.Room.{directoryWords}
+use Rattle.scope.specs.Tables.{written}
+use Rattle.scope.specs.Contour.{classWord, ownerWord}
+use Rattle.scope.specs.GeoJson.{firstAt, countAt, classAt, ownerAt, ringSetRefused}
+use Rattle.ringset.proofs.Laws.{SoundRecord, Sound, sound}
+use Rattle.ringrecord.specs.declared.Fate.{Fate}
+use Rattle.ringrecord.specs.declared.Fate.the-variants as fate-is
+use Rattle.ringrecord.specs.declared.RingRecord.{RingRecord}
+use Rattle.ringrecord.specs.Records.{fateOf, wordsOf, directoryFrom, directoryOf, fateFrom, recordFrom, recordsFrom}
+use Rattle.ringrecord.specs.Over.{OverRecords}
+
+-- ---- lengths
+
+-- four words a record
+pub as-many-words : (k : ℕ) (rs : List RingRecord) → length (directoryFrom k rs) ≡ directoryWords (length rs)
+unfolding directoryFrom wordsOf directoryWords recordStride
+as-many-words k [] = refl
+as-many-words k (r ∷ rs) = omega (arith, as-many-words (suc k) rs)
+
+-- a record for each four words
+pub as-many-records : (n : ℕ) (ws : List ℕ) → length ws ≡ directoryWords n → length (recordsFrom ws) ≡ n
+unfolding recordsFrom directoryWords recordStride
+as-many-records n [] h = omega arith
+as-many-records n (a ∷ []) h = omega arith
+as-many-records n (a ∷ b ∷ []) h = omega arith
+as-many-records n (a ∷ b ∷ c ∷ []) h = omega arith
+as-many-records zero (a ∷ b ∷ c ∷ d ∷ ws) h = omega arith
+as-many-records (suc n) (a ∷ b ∷ c ∷ d ∷ ws) h = ap suc (as-many-records n ws (omega arith))
+
+-- ---- records one after the other
+
+-- four words in front are a record in front
+pub record-in-front : (first count class owner : ℕ) (words : List ℕ) →
+    recordsFrom (first ∷ count ∷ class ∷ owner ∷ words) ≡ recordFrom first count class owner ∷ recordsFrom words
+unfolding recordsFrom
+record-in-front first count class owner words = refl
+
+-- the words of whole records in front are these records in front
+pub records-append : (m : ℕ) (xs ys : List ℕ) → length xs ≡ directoryWords m → recordsFrom (xs ++ ys) ≡ recordsFrom xs ++ recordsFrom ys
+unfolding recordsFrom directoryWords recordStride
+records-append m [] ys h = refl
+records-append m (a ∷ []) ys h = absurd (omega arith)
+records-append m (a ∷ b ∷ []) ys h = absurd (omega arith)
+records-append m (a ∷ b ∷ c ∷ []) ys h = absurd (omega arith)
+records-append zero (a ∷ b ∷ c ∷ d ∷ xs) ys h = absurd (omega arith)
+records-append (suc m) (a ∷ b ∷ c ∷ d ∷ xs) ys h = rw (records-append m xs ys (omega arith))
+
+-- ---- single words
+
+-- a record's words in front of others
+module _ (k : ℕ) (r : RingRecord) (words : List ℕ) (i : ℕ) where
+  word-of : i < 4 → getD (wordsOf k r ++ words) i 0 ≡ getD (wordsOf k r) i 0
+  unfolding wordsOf
+  word-of h = List·getD-append (wordsOf k r) words 0 i h
+
+  word-behind : getD (wordsOf k r ++ words) (4 + i) 0 ≡ getD words i 0
+  unfolding wordsOf
+  word-behind = getD-append-add (wordsOf k r) words i 0
+
+-- word i of record k, where the first record has number j
+word-in : (j k i : ℕ) (rs : List RingRecord) (d : RingRecord) → i < 4 → k < length rs →
+    getD (directoryFrom j rs) (4 * k + i) 0 ≡ getD (wordsOf (j + k) (getD rs k d)) i 0
+unfolding directoryFrom
+word-in j k i [] d h m = absurd (omega arith)
+word-in j zero i (r ∷ rs) d h m = rw (zero-add, add-zero) (word-of j r (directoryFrom (suc j) rs) i h)
+word-in j (suc k) i (r ∷ rs) d h m =
+    let e : 4 * suc k + i ≡ 4 + (4 * k + i) = omega arith in
+    let f : j + suc k ≡ suc j + k = omega arith in
+    rw (e, f, word-behind j r (directoryFrom (suc j) rs) (4 * k + i)) (word-in (suc j) k i rs d h (omega arith))
+
+module _ (rs : List RingRecord) (k : ℕ) where
+  module _ (d : RingRecord) (within : k < length rs) where
+    word-at : (i : ℕ) → i < 4 → getD (directoryOf rs) (recordStride * k + i) 0 ≡ getD (wordsOf k (getD rs k d)) i 0
+    unfolding directoryOf recordStride
+    word-at i h = rw zero-add at (word-in 0 k i rs d h within)
+
+    pub first-at : firstAt (directoryOf rs) k ≡ getD rs k d .first
+    unfolding firstAt wordsOf
+    first-at = rw add-zero at (word-at 0 (omega arith))
+
+    pub count-at : countAt (directoryOf rs) k ≡ getD rs k d .count
+    unfolding countAt wordsOf
+    count-at = word-at 1 (omega arith)
+
+    pub class-at : classAt (directoryOf rs) k ≡ classWord (fateOf (getD rs k d .fate))
+    unfolding classAt wordsOf
+    class-at = word-at 2 (omega arith)
+
+    pub owner-at : ownerAt (directoryOf rs) k ≡ ownerWord k (fateOf (getD rs k d .fate))
+    unfolding ownerAt wordsOf
+    owner-at = word-at 3 (omega arith)
+
+  -- past the last record every word is 0
+  module _ (past : length rs ≤ k) where
+    word-past : (i : ℕ) → getD (directoryOf rs) (recordStride * k + i) 0 ≡ 0
+    unfolding directoryOf directoryWords recordStride
+    word-past i = List·getD-eq-default (directoryOf rs) 0 (omega (arith, as-many-words 0 rs))
+
+    pub first-past : firstAt (directoryOf rs) k ≡ 0
+    unfolding firstAt
+    first-past = rw add-zero at (word-past 0)
+
+    pub count-past : countAt (directoryOf rs) k ≡ 0
+    unfolding countAt
+    count-past = word-past 1
+
+    pub class-past : classAt (directoryOf rs) k ≡ 0
+    unfolding classAt
+    class-past = word-past 2
+
+    pub owner-past : ownerAt (directoryOf rs) k ≡ 0
+    unfolding ownerAt
+    owner-past = word-past 3
+
+-- ---- words that come back
+
+-- class and owner words that the record of number k holds as they are
+pub data Kept (k class owner : ℕ) : Type 0 where
+  a-polygon : class ≡ 0 → owner ≡ k → Kept k class owner
+  a-hole : class ≡ 1 → Kept k class owner
+  a-line : class ≡ 2 → owner ≡ noOwner → Kept k class owner
+
+pub words-come-back : {k class owner : ℕ} (first count : ℕ) → Kept k class owner →
+    wordsOf k (recordFrom first count class owner) ≡ first ∷ count ∷ class ∷ owner ∷ []
+unfolding wordsOf recordFrom fateFrom fateOf classWord ownerWord
+words-come-back first count (a-polygon e f) = rw (e, f)
+words-come-back {k} {class} {owner} first count (a-hole e) = rw e (by (eqb owner noOwner) refl)
+  where
+    by : (b : Bool) → eqb owner noOwner ≡ b →
+        first ∷ count ∷ classWord (fateOf (cond b fate-is.Dropped (fate-is.Hole owner))) ∷ ownerWord k (fateOf (cond b fate-is.Dropped (fate-is.Hole owner))) ∷ []
+        ≡ first ∷ count ∷ 1 ∷ owner ∷ []
+    by true f = rw (eqb-true owner noOwner f)
+    by false f = refl
+words-come-back first count (a-line e f) = rw (e, f)
+
+-- where class and owner words are kept, the words come back from the records that they stand for, numbered from k
+pub all-words-come-back : (k n : ℕ) (ws : List ℕ) → length ws ≡ directoryWords n → ((i : ℕ) → i < n → Kept (k + i) (classAt ws i) (ownerAt ws i)) →
+    directoryFrom k (recordsFrom ws) ≡ ws
+unfolding directoryFrom recordsFrom directoryWords recordStride classAt ownerAt
+all-words-come-back k n [] h kept = refl
+all-words-come-back k n (a ∷ []) h kept = absurd (omega arith)
+all-words-come-back k n (a ∷ b ∷ []) h kept = absurd (omega arith)
+all-words-come-back k n (a ∷ b ∷ c ∷ []) h kept = absurd (omega arith)
+all-words-come-back k zero (a ∷ b ∷ c ∷ d ∷ ws) h kept = absurd (omega arith)
+all-words-come-back k (suc n) (a ∷ b ∷ c ∷ d ∷ ws) h kept =
+    let e : wordsOf k (recordFrom a b c d) ≡ a ∷ b ∷ c ∷ d ∷ [] = words-come-back a b (rw add-zero at (kept 0 (omega arith))) in
+    rw (e, all-words-come-back (suc k) n ws (omega arith) rest)
+  where
+    later : (q i : ℕ) → getD (a ∷ b ∷ c ∷ d ∷ ws) (4 * suc i + q) 0 ≡ getD ws (4 * i + q) 0
+    later q i = let e : 4 * suc i + q ≡ suc (suc (suc (suc (4 * i + q)))) = omega arith in rw e
+
+    rest : (i : ℕ) → i < n → Kept (suc k + i) (classAt ws i) (ownerAt ws i)
+    rest i m =
+        let e : k + suc i ≡ suc k + i = omega arith in
+        rw (e, later 2 i, later 3 i) at (kept (suc i) (omega arith))
+
+-- ---- records that come back
+
+fate-comes-back : (k : ℕ) (fate : Fate) → (fate ≡ fate-is.Hole noOwner → ⊥) → fateFrom (classWord (fateOf fate)) (ownerWord k (fateOf fate)) ≡ fate
+unfolding fateFrom fateOf classWord ownerWord noOwner
+fate-comes-back k fate-is.Polygon h = refl
+fate-comes-back k (fate-is.Hole owner) h = rw (ne-eqb owner noOwner (λ e. h (ap fate-is.Hole e)))
+fate-comes-back k fate-is.Dropped h = refl
+fate-comes-back k fate-is.Line h = refl
+
+-- a record comes back from its words, but for a hole of the owner that stands for none
+pub record-comes-back : (k : ℕ) (r : RingRecord) → (r .fate ≡ fate-is.Hole noOwner → ⊥) →
+    recordFrom (r .first) (r .count) (classWord (fateOf (r .fate))) (ownerWord k (fateOf (r .fate))) ≡ r
+unfolding recordFrom
+record-comes-back k r h = rw (fate-comes-back k (r .fate) h)
+
+-- ---- a checked set
+
+-- class and owner of a sound record come back
+sound-kept : (ps directory : List ℕ) (rings k : ℕ) → SoundRecord ps directory rings k → Kept k (classAt directory k) (ownerAt directory k)
+sound-kept ps directory rings k s = by (eqb (classAt directory k) 0) refl
+  where
+    by : (b : Bool) → eqb (classAt directory k) 0 ≡ b → Kept k (classAt directory k) (ownerAt directory k)
+    by true e = let p = eqb-true (classAt directory k) 0 e in a-polygon p (s .polygon p)
+    by false e =
+        let not-0 = eqb-false (classAt directory k) 0 e in
+        let low = s .classed in
+        a-hole (omega arith)
+
+-- the words of a set that number 9 does not refuse come back from the records that they stand for
+pub checked-words-come-back : (ps directory : List ℕ) (n : ℕ) → ringSetRefused ps directory n ≡ false →
+    directoryOf (recordsFrom (take (directoryWords n) directory)) ≡ take (directoryWords n) directory
+unfolding directoryOf directoryWords recordStride classAt ownerAt
+checked-words-come-back ps directory n e = all-words-come-back 0 n (take (directoryWords n) directory) (length-take-le (directoryWords n) directory (all .long)) kept
+  where
+    all : Sound ps directory n
+    all = sound ps directory n e
+
+    word : (i q : ℕ) → i < n → q < 4 → getD (take (directoryWords n) directory) (4 * i + q) 0 ≡ getD directory (4 * i + q) 0
+    word i q h l = getD-take (directoryWords n) directory (4 * i + q) 0 (omega arith)
+
+    kept : (i : ℕ) → i < n → Kept (0 + i) (classAt (take (directoryWords n) directory) i) (ownerAt (take (directoryWords n) directory) i)
+    kept i h = rw (zero-add, word i 2 h (omega arith), word i 3 h (omega arith)) (sound-kept ps directory n i (all .at i h))
+
+-- ---- a call over records
+
+module _ (Words : List ℕ → List ℕ → Type 0) (one : (d d′ d″ : List ℕ) → Words d d′ → Words d d″ → d′ ≡ d″) (n : ℕ) (records : List RingRecord) where
+  -- the words written are what stands in front
+  in-front : {records′ : List RingRecord} (a : OverRecords Words n records records′) →
+      take (directoryWords n) (written (a .words) (directoryOf records)) ≡ a .words
+  unfolding written
+  in-front a = take-at (a .words) _ (directoryWords n) (a .as-many)
+
+  -- where a word directory has one result, so have the records
+  pub one-result : {records′ records″ : List RingRecord} → OverRecords Words n records records′ → OverRecords Words n records records″ → records′ ≡ records″
+  one-result a b =
+      let whole = one _ _ _ (a .as-words) (b .as-words) in
+      let same = sym (in-front a) ∙ ap (take (directoryWords n)) whole ∙ in-front b in
+      a .records-are ∙ ap (λ (words : List ℕ). written (recordsFrom words) records) same ∙ sym (b .records-are)

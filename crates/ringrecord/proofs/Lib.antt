@@ -1,0 +1,3 @@
+-- What follows of records, of their words, and of a call over records; and a record as the walks over a slice of them see it.
+pub mod Laws
+pub mod Records

@@ -1,0 +1,3 @@
+-- Where records come from, and what is written of them.
+pub mod Source
+pub mod Laid
