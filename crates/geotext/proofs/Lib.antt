@@ -1,8 +1,8 @@
--- What the proofs of this crate share, and in `Runs`, `Lengths` and `Texts` what its callers cite.
+-- What the proofs of this crate share, and in `Runs`, `Lengths`, `Shares` and `Texts` what its callers cite.
 pub mod Runs
 pub mod Lengths
+pub mod Shares
 pub mod Texts
 mod Digits
 mod Rings
 mod Sums
-mod Shares

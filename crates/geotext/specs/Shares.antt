@@ -5,13 +5,14 @@ use mathlib.Core.List.{List}
 use lib.Dec.{eqb}
 use lib.ListN.{length}
 use Rattle.scope.specs.Limits.{noOwner}
-use Rattle.scope.specs.GeoJson.{ownerAt, ringAt, isPolygon, ringText}
+use Rattle.scope.specs.Area.{points}
+use Rattle.scope.specs.GeoJson.{wordsIn, ringText}
+use Rattle.ringset.specs.declared.Record.{Record}
 
 -- the bytes of a record's ring
-unfoldable pub ringBytes : List ℕ → List ℕ → ℕ → ℕ
-ringBytes ps directory k = length (ringText (ringAt ps directory k))
+unfoldable pub ringBytes : List ℕ → Record → ℕ
+ringBytes ps r = length (ringText (points (wordsIn ps (r .first) (r .count))))
 
 -- a polygon adds its ring, two brackets and a comma; a hole that is not dropped adds its ring and a comma
-unfoldable pub recordShare : List ℕ → List ℕ → ℕ → ℕ
-recordShare ps directory k =
-    cond (isPolygon directory k) (ringBytes ps directory k + 3) (cond (eqb (ownerAt directory k) noOwner) 0 (ringBytes ps directory k + 1))
+unfoldable pub recordShare : List ℕ → Record → ℕ
+recordShare ps r = cond (eqb (r .class) 0) (ringBytes ps r + 3) (cond (eqb (r .owner) noOwner) 0 (ringBytes ps r + 1))

@@ -1,13 +1,16 @@
 // The text of a coordinate, a point and a ring as bytes, how long each is, and how long the text of a checked ring set is.
+use ringset::Record;
+use ringset::record_at;
 ghost use mathlib.Core.Path.{_≡_};
-ghost use Prim.Native.Nat.{_+_, _*_, _^_, _≤_, _<_};
+ghost use Prim.Native.Nat.{_+_, _-_, _*_, _^_, _≤_, _<_};
 ghost use lib.ListN.{length};
 ghost use mathlib.Core.Bool.{false};
 ghost use mathlib.Core.List.{[], _∷_};
 ghost use lib.Seq.{sets};
 ghost use Rattle.scope.specs.Limits.{pointLimit};
 ghost use Rattle.scope.specs.Area as Area;
-ghost use Rattle.scope.specs.GeoJson.{firstAt, countAt, wordsIn, ringSetRefused, decimal, coordinateText, pointText, ringText, geoJsonText};
+ghost use Rattle.scope.specs.GeoJson.{wordsIn, ringSetRefused, decimal, coordinateText, pointText, ringText, geoJsonText};
+ghost use Rattle.ringset.specs.OneRecord.{shapeRefused};
 ghost use Rattle.geotext.specs.Pieces.{digitText, pointTexts};
 ghost use Rattle.geotext.specs.Shares.{recordShare};
 
@@ -170,23 +173,29 @@ pub fn put_ring(points: &[u16], first: u32, count: u32, text: &mut [u8], at: usi
     end + 1
 }
 
-// What record `k` adds to the length of a set's text.
-fn record_length(points: &[u16], directory: &[u32], k: u32) -> u64
-    requires { ⌜ 2 * (firstAt (now directory) k + countAt (now directory) k) ≤ length (now points) ⌝ }
-    requires { ⌜ countAt (now directory) k ≤ pointLimit ⌝ }
-    requires { ⌜ recordShare (now points) (now directory) k < 2 ^ 63 ⌝ }
-    ensures { λ r. ⌜ r ≡ recordShare (now (points .entry)) (now (directory .entry)) k ⌝ }
+// What a record whose ring is not refused adds to the length of its set's text.
+pub fn share_of(points: &[u16], record: Record) -> u64
+    requires { ⌜ shapeRefused (now points) «record» ≡ false ⌝ }
+    ensures { λ r. ⌜ r ≡ recordShare (now (points .entry)) «record» ⌝ }
 {
-    let record = ringset::record_at(directory, k);
-    let class = record.class;
-    let owner = record.owner;
-    if class == 0 {
+    if record.class == 0 {
         return ring_length(points, record.first, record.count) + 3;
     }
-    if owner == NO_OWNER {
+    if record.owner == NO_OWNER {
         return 0;
     }
     ring_length(points, record.first, record.count) + 1
+}
+
+// The number of bytes of a text by the shares of its records: they come into the frame, and the last polygon has no comma.
+pub fn framed(shares: u64) -> u64
+    requires { ⌜ shares < 2 ^ 63 ⌝ }
+    ensures { λ r. ⌜ r ≡ 40 + (shares - 1) ⌝ }
+{
+    if shares == 0 {
+        return FRAME_LENGTH;
+    }
+    FRAME_LENGTH + shares - 1
 }
 
 // The number of bytes of the text of a checked ring set. It does not depend on the order of the rings, so one walk over the records gives it.
@@ -197,11 +206,8 @@ pub fn text_length(points: &[u16], directory: &[u32], rings: u32) -> u64
     let mut sum: u64 = 0;
     let mut k = 0;
     while k < rings {
-        sum += record_length(points, directory, k);
+        sum += share_of(points, record_at(directory, k));
         k += 1;
     }
-    if sum == 0 {
-        return FRAME_LENGTH;
-    }
-    FRAME_LENGTH + sum - 1
+    framed(sum)
 }

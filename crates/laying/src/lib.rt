@@ -68,7 +68,7 @@ fn laid_along(answer: Built, head: u32, segments: u32) -> Laid
 }
 
 // The points of the rings that a pass has drawn, where they and their records fit; the points are spared where one does not.
-fn pack_along(drawing: Drawing, dx: u32, links: &[u32], points: &mut [u16], room: usize) -> Laid
+pub fn pack_along(drawing: Drawing, dx: u32, links: &[u32], points: &mut [u16], room: usize) -> Laid
     ensures { λ r. ⌜ LaidAlong drawing room (now (points .entry)) (walkPoints dx (now (links .entry)) (drawing .head) (drawing .head) (drawing .segments)) r (now (points .exit)) ⌝ }
 {
     let segments = drawing.segments;

@@ -1,5 +1,5 @@
 -- What a ring set is that number 9 does not refuse: its directory is long enough, and of each record the range, the count, the class and the owner are
--- such as a reader may go by. Readers of a checked set cite `sound`. Assumes nothing.
+-- such as a reader may go by. Readers of a checked set cite `sound`, and those of one record by itself `sound-shape`. Assumes nothing.
 use mathlib.Core.Path.{_≡_, refl}
 use mathlib.Core.Bool.{Bool, true, false, not, true≢false, and-eq-true-iff, _&&_}
 use mathlib.Core.List.{List}
@@ -7,14 +7,42 @@ use mathlib.Core.Logic.{_⊎_, inl, inr, ⊎-elim}
 use Prim.Native.Nat.{ℕ, _+_, _*_, _<_, _≤_}
 use lib.ListN.{length}
 use borrow.Author.Tests.{ltb-true, ltb-false, eqb-true, eq-eqb, not-false}
-use Rattle.scope.specs.Limits.{recordStride, pointLimit, noOwner}
+use Rattle.scope.specs.Limits.{coordinateLimit, recordStride, pointLimit, noOwner}
+use Rattle.scope.specs.Area.{anyAbove}
 use Rattle.scope.specs.Room.{directoryWords}
-use Rattle.scope.specs.GeoJson.{firstAt, countAt, classAt, ownerAt, directoryShort, rangeOutside, countOut, classOut, isPolygon, isHole, ownedByAnother, ownedByNone, recordRefused, ringSetRefused}
+use Rattle.scope.specs.GeoJson.{firstAt, countAt, classAt, ownerAt, wordsIn, ringWordsAt, ringAt, directoryShort, rangeOutside, countOut, coordinateOver, classOut, isPolygon, isHole, ownedByAnother, ownedByNone, recordRefused, ringSetRefused}
+use Rattle.ringset.specs.declared.Record.{Record}
+use Rattle.ringset.specs.OneRecord.{recordAt, shapeRefused}
 use Rattle.ringset.proofs.Below.{neither, none-below}
+
+-- a record whose ring is not refused: its range lies within the points, it has 4 points or more and not too many, no coordinate is above the limit, and it is
+-- a polygon or a hole
+pub record SoundShape (ps : List ℕ) (r : Record) : Type 0 where
+  pub within : 2 * (r .first + r .count) ≤ length ps
+  pub four : 4 ≤ r .count
+  pub few : r .count ≤ pointLimit
+  pub low : anyAbove coordinateLimit (wordsIn ps (r .first) (r .count)) ≡ false
+  pub classed : r .class ≤ 1
+
+pub sound-shape : (ps : List ℕ) (r : Record) → shapeRefused ps r ≡ false → SoundShape ps r
+unfolding shapeRefused
+sound-shape ps r e =
+    let class = neither _ _ e in
+    let walked = neither _ _ (neither _ _ (class .0) .0) in
+    let range = neither _ _ (walked .0) in
+    let count = neither _ _ (range .1) in
+    record {
+      within = ltb-false _ _ (range .0);
+      four = ltb-false _ _ (count .0);
+      few = ltb-false _ _ (count .1);
+      low = walked .1;
+      classed = ltb-false _ _ (class .1);
+    }
 
 -- record k of a set of as many rings as are stated: its range lies within the points, it has 4 points or more and not too many, it is a polygon that
 -- owns itself, or a hole that is dropped or has a polygon of the set as its owner
 pub record SoundRecord (ps directory : List ℕ) (rings k : ℕ) : Type 0 where
+  pub shaped : shapeRefused ps (recordAt directory k) ≡ false
   pub within : 2 * (firstAt directory k + countAt directory k) ≤ length ps
   pub four : 4 ≤ countAt directory k
   pub few : countAt directory k ≤ pointLimit
@@ -52,19 +80,17 @@ module _ (ps directory : List ℕ) (rings k : ℕ) where
 
   -- a record that is not refused is sound
   sound-record : recordRefused ps directory rings k ≡ false → SoundRecord ps directory rings k
-  unfolding recordRefused rangeOutside countOut classOut
+  unfolding recordAt shapeRefused recordRefused rangeOutside countOut coordinateOver ringAt ringWordsAt classOut
   sound-record e =
       let none = neither _ _ e in
       let another = neither _ _ (none .0) in
-      let class = neither _ _ (another .0) in
-      let walked = neither _ _ (neither _ _ (class .0) .0) in
-      let range = neither _ _ (walked .0) in
-      let count = neither _ _ (range .1) in
+      let shape = sound-shape ps (recordAt directory k) (another .0) in
       record {
-        within = ltb-false _ _ (range .0);
-        four = ltb-false _ _ (count .0);
-        few = ltb-false _ _ (count .1);
-        classed = ltb-false _ _ (class .1);
+        shaped = another .0;
+        within = shape .within;
+        four = shape .four;
+        few = shape .few;
+        classed = shape .classed;
         polygon = owns-itself (another .1);
         hole = owned (none .1);
       }

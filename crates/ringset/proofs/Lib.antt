@@ -2,5 +2,6 @@
 pub mod Below
 pub mod Laws
 pub mod Words
+pub mod OneRecord
 pub mod Owned
 pub mod Judged

@@ -1,12 +1,12 @@
 // The check of a ring set: whether words are points and a directory such as a reader takes, which is number 9 of document 01. It takes any words whatever.
 use lent::word;
 ghost use mathlib.Core.Path.{_≡_};
-ghost use mathlib.Core.Bool.{_||_};
 ghost use Prim.Native.Nat.{_<_, _%_};
 ghost use lib.ListN.{length};
 ghost use Rattle.scope.specs.Limits.{coordinateLimit};
 ghost use Rattle.scope.specs.Area as Area;
-ghost use Rattle.scope.specs.GeoJson.{firstAt, countAt, classAt, ownerAt, unclosed, ownedByAnother, ownedByNone, recordRefused, ringSetRefused};
+ghost use Rattle.scope.specs.GeoJson.{firstAt, countAt, classAt, ownerAt, unclosed, recordRefused, ringSetRefused};
+ghost use Rattle.ringset.specs.OneRecord.{shapeRefused, ownerRefused};
 
 // The words of a directory record: first point, point count, class, owner.
 const RECORD_STRIDE: usize = 4;
@@ -64,32 +64,10 @@ fn unclosed(words: &[u16]) -> bool
     (words[n - 2] != words[0]) | (words[n - 1] != words[1])
 }
 
-// Whether the owner of record `k` is none that it may have: a polygon owns itself, a hole has a polygon's number or `NO_OWNER`.
-fn ill_owned(directory: &[u32], rings: u32, k: u32) -> bool
-    ensures { λ r. ⌜ r ≡ ownedByAnother (now (directory .entry)) k || ownedByNone (now (directory .entry)) rings k ⌝ }
+// Whether number 9 refuses a record for its ring: the count, the range, a coordinate, the last point or the class.
+pub fn shape_faulty(points: &[u16], record: Record) -> bool
+    ensures { λ r. ⌜ r ≡ shapeRefused (now (points .entry)) «record» ⌝ }
 {
-    let record = record_at(directory, k);
-    if record.class == 0 {
-        return record.owner != k;
-    }
-    if record.class != 1 {
-        return false;
-    }
-    if record.owner == NO_OWNER {
-        return false;
-    }
-    if rings <= record.owner {
-        return true;
-    }
-    let owner = record_at(directory, record.owner);
-    owner.class != 0
-}
-
-// Whether number 9 refuses record `k` of a set of as many rings as are stated.
-fn record_faulty(points: &[u16], directory: &[u32], rings: u32, k: u32) -> bool
-    ensures { λ r. ⌜ r ≡ recordRefused (now (points .entry)) (now (directory .entry)) rings k ⌝ }
-{
-    let record = record_at(directory, k);
     let first = record.first as usize;
     let count = record.count as usize;
     if count < 4 {
@@ -109,10 +87,39 @@ fn record_faulty(points: &[u16], directory: &[u32], rings: u32, k: u32) -> bool
     if unclosed(ring) {
         return true;
     }
-    if 1 < record.class {
+    1 < record.class
+}
+
+// Whether number 9 refuses record `k` for its owner: a polygon owns itself, a hole has a polygon's number or `NO_OWNER`. The class of the record that the
+// owner's number names is whatever it may be where there is none.
+pub fn owner_faulty(record: Record, rings: u32, k: u32, owner_class: u32) -> bool
+    ensures { λ r. ⌜ r ≡ ownerRefused «record» rings k «owner_class» ⌝ }
+{
+    if record.class == 0 {
+        return record.owner != k;
+    }
+    if record.class != 1 {
+        return false;
+    }
+    if record.owner == NO_OWNER {
+        return false;
+    }
+    if rings <= record.owner {
         return true;
     }
-    ill_owned(directory, rings, k)
+    owner_class != 0
+}
+
+// Whether number 9 refuses record `k` of a set of as many rings as are stated.
+fn record_faulty(points: &[u16], directory: &[u32], rings: u32, k: u32) -> bool
+    ensures { λ r. ⌜ r ≡ recordRefused (now (points .entry)) (now (directory .entry)) rings k ⌝ }
+{
+    let record = record_at(directory, k);
+    if shape_faulty(points, record) {
+        return true;
+    }
+    let owner = record_at(directory, record.owner);
+    owner_faulty(record, rings, k, owner.class)
 }
 
 // Whether number 9 refuses a set of as many rings as are stated.

@@ -1,0 +1,2 @@
+-- What finding owners in the link table asks and leaves.
+pub mod Owning

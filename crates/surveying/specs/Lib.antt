@@ -1,0 +1,3 @@
+-- The survey of a run of records, step by step and whole.
+pub mod Steps
+pub mod Surveyed
