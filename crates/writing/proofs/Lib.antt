@@ -1,5 +1,9 @@
--- The laws that the proofs of this crate share.
+-- The laws that the proofs of this crate share, and in `Laws` what callers cite that keep their records in another way.
 mod Puts
-mod Rings
+mod Each
+mod Entries
 mod Texts
-mod Chains
+mod Rooms
+mod Turns
+mod Counts
+pub mod Laws

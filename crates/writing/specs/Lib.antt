@@ -1,3 +1,3 @@
--- The parts that a ring set's text is written in, and the chains that the holes of a batch are found by.
-pub mod Parts
-pub mod Chains
+-- The text of a ring set by the entries of its rings, what it is to put a part of a text, and how many rings a text has.
+pub mod Texts
+pub mod Counts
