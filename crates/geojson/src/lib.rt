@@ -2,7 +2,7 @@
 use error::Refusal;
 use geotext::text_length;
 use ringset::ring_set_faulty;
-use writing::write_text;
+use writing::write_within;
 ghost use mathlib.Core.Path.{_≡_};
 ghost use Rattle.geojson.specs.Written.{lengthAnswer, writtenAnswer, textAfter};
 
@@ -34,6 +34,6 @@ pub fn write_geojson(points: &[u16], directory: &[u32], rings: u32, text: &mut [
     if (text.len() as u64) < length {
         return TextAnswer::Refused(Refusal::TextShort);
     }
-    write_text(points, directory, rings, text);
+    write_within(points, directory, rings, length as usize, text);
     TextAnswer::Bytes(length)
 }

@@ -21,11 +21,11 @@ returns-2 c =
     let sound = measured .before in
     text-short _ _ _ _ (sym (sound .before .ring-set-faulty .ensures) ∙ sound .if1 .left) (omega (arith, measured .text-length .ensures))
 
-write-text-requires : tie.Need-write-text-requires
-write-text-requires c κs =
+write-within-requires : tie.Need-write-within-requires
+write-within-requires c κs =
     let measured = c .before .before in
     let sound = measured .before in
-    (sym (sound .before .ring-set-faulty .ensures) ∙ sound .if1 .left, omega (arith, measured .text-length .ensures))
+    (sym (sound .before .ring-set-faulty .ensures) ∙ sound .if1 .left, (measured .text-length .ensures, omega (arith, measured .text-length .ensures)))
 
 same-length : tie.Need-same-length
 same-length c = search needs
@@ -39,7 +39,7 @@ returns-3 c =
     (sym (sound .before .ring-set-faulty .ensures) ∙ sound .if1 .left)
     (omega (arith, measured .text-length .ensures))
     (measured .text-length .ensures)
-    (put .write-text .ensures)
+    (put .write-within .ensures)
 
 pub write-geojson-spec : {M : Type 1} → statement M
 write-geojson-spec =
@@ -49,6 +49,6 @@ write-geojson-spec =
     returns
     text-length-requires
     returns-2
-    write-text-requires
+    write-within-requires
     same-length
     returns-3)
