@@ -96,7 +96,7 @@ looped dx dy [] e = tt
 looped dx dy (ring ∷ rings) e = (record { is-closed = e .0 .is-closed; once = e .0 .no-point-twice }, looped dx dy rings (e .1))
 
 -- up to a point that stands nowhere before
-up-to-last : (p : Point) (l rest : Line) → occurrences p (l ++ (p ∷ [])) ≤ 1 → upTo p ((l ++ (p ∷ [])) ++ rest) ≡ suc (length l)
+pub up-to-last : (p : Point) (l rest : Line) → occurrences p (l ++ (p ∷ [])) ≤ 1 → upTo p ((l ++ (p ∷ [])) ++ rest) ≡ suc (length l)
 unfolding upTo occurrences total
 up-to-last p [] rest once = ap (λ (b : Bool). suc (cond b 0 (upTo p rest))) (same-refl p)
 up-to-last p (q ∷ l) rest once = by (samePoint p q) refl (up-to-last p l rest (omega arith))

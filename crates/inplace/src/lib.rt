@@ -31,7 +31,7 @@ fn file_rings(points: &[u16], table: &mut [u32], n: usize)
 }
 
 // The ladder over `n` extents that stand from word 0 on, behind the ranks, and behind it the ladder over the points.
-fn raise_both(points: &[u16], table: &mut [u32], n: usize) -> Filing
+pub fn raise_both(points: &[u16], table: &mut [u32], n: usize) -> Filing
     requires { ⌜ 3 * n ≤ length (now table) ⌝ }
     ensures { λ r. ⌜ Laddered (now (points .entry)) (now (table .entry)) (now (table .exit)) n (r .rings) (r .chunks) ⌝ }
 {
@@ -66,7 +66,7 @@ fn owner_within(
 
 // Stores the owner of each of the first `n` records, whose classes are known: a polygon owns itself, and any other has the first polygon that takes its ring,
 // or none.
-fn own_rings(points: &[u16], table: &mut [u32], n: usize, rings: Ladder, chunks: Ladder)
+pub fn own_rings(points: &[u16], table: &mut [u32], n: usize, rings: Ladder, chunks: Ladder)
     requires { ⌜ Filed (now points) (take (4 * n) (now table)) (drop (4 * n) (now table)) n rings chunks ⌝ }
     ensures { λ _. ⌜ OwnersStored (now (points .entry)) (now (table .entry)) (now (table .exit)) n ⌝ }
 {
@@ -104,7 +104,7 @@ fn stands_at(points: &[u16], at: usize, x: u16, y: u16) -> bool
 }
 
 // How many points the ring has whose first point stands at word `at`: up to the next point that equals it, which is counted too, or all that are left.
-fn ring_length(points: &[u16], at: usize) -> usize
+pub fn ring_length(points: &[u16], at: usize) -> usize
     requires { ⌜ at ≤ length (now points) ⌝ }
     ensures { λ r. ⌜ LengthFound (now (points .entry)) at r ⌝ }
 {

@@ -14,10 +14,10 @@ use Rattle.owners.specs.Owned.{classIn, Classed, ownerIn, Owned}
 use Rattle.owners.proofs.Ranks.{number-of}
 
 -- the words of the rings are as they were
-record SameRings (start directory : List ℕ) : Type 0 where
-  as-long : length directory ≡ length start
-  same-first : (r : ℕ) → recordFirst directory r ≡ recordFirst start r
-  same-count : (r : ℕ) → recordCount directory r ≡ recordCount start r
+pub record SameRings (start directory : List ℕ) : Type 0 where
+  pub as-long : length directory ≡ length start
+  pub same-first : (r : ℕ) → recordFirst directory r ≡ recordFirst start r
+  pub same-count : (r : ℕ) → recordCount directory r ≡ recordCount start r
 
 module _ {start directory : List ℕ} (points : List ℕ) (same : SameRings start directory) where
   ring-stays : (r : ℕ) → recordRing points directory r ≡ recordRing points start r
@@ -29,7 +29,7 @@ module _ {start directory : List ℕ} (points : List ℕ) (same : SameRings star
   rings-stay k zero = refl
   rings-stay k (suc n) = rw (ring-stays k, rings-stay (suc k) n)
 
-  class-stays : (n r : ℕ) → classIn points directory n r ≡ classIn points start n r
+  pub class-stays : (n r : ℕ) → classIn points directory n r ≡ classIn points start n r
   unfolding classIn
   class-stays n r = rw (rings-stay 0 n, ring-stays r)
 
@@ -55,7 +55,7 @@ module _ (start directory : List ℕ) (same-class : (r : ℕ) → recordClass di
   classes-stay k zero = refl
   classes-stay k (suc n) = rw (same-class k, classes-stay (suc k) n)
 
-  owner-stays : (points : List ℕ) → SameRings start directory → (n r : ℕ) → ownerIn points directory n r ≡ ownerIn points start n r
+  pub owner-stays : (points : List ℕ) → SameRings start directory → (n r : ℕ) → ownerIn points directory n r ≡ ownerIn points start n r
   unfolding ownerIn
   owner-stays points same n r = rw (same-class r, classes-stay 0 n, rings-stay points same 0 n, ring-stays points same r)
 

@@ -55,7 +55,7 @@ fn reach_at(table: &[u32], rings: Ladder, number: usize) -> Extent
 }
 
 // Whether the ring of record `r` takes the ring of record `at`.
-fn record_takes(
+pub fn record_takes(
     points: &[u16],
     directory: &[u32],
     table: &[u32],
@@ -127,7 +127,7 @@ fn even_takers(
 }
 
 // The class of the ring of a number.
-fn class_of(
+pub fn class_of(
     points: &[u16],
     directory: &[u32],
     table: &[u32],
