@@ -236,7 +236,7 @@ pub fn band_second_report(
 }
 
 // The points and the bare records of the rings in the links, stored from a word of each output on.
-fn write_behind(
+pub fn write_behind(
     links: &[u32],
     dx: u32,
     head: u32,
