@@ -1,5 +1,5 @@
-// The builds with the directory as a run of records, each holding its fate, where the word form takes directory words. Each has the word form's results, by the
-// definitions of `ringrecord`, and asks nothing of the caller.
+// The calls with the directory as a run of records, each holding its fate, where the word form takes directory words: the builds, and by name the writer with its
+// check and its length. Each has the word form's results, by the definitions of `ringrecord`, and asks nothing of the caller.
 use bandlaying::lay_bands;
 use cells::Level;
 use contourlaying::lay_contours;
@@ -7,8 +7,12 @@ use delivering::hand_out;
 use isoringbuilder::Built;
 use laying::lay_lines;
 use laying::lay_rings;
-use ringrecord::RingRecord;
+pub use recordwriting::write_record_text;
+pub use ringrecord::Fate;
+pub use ringrecord::RingRecord;
 use smoothing::Placement;
+pub use surveying::record_set_faulty;
+pub use surveying::record_text_length;
 ghost use Rattle.bands.specs.Bands.{BandBuilt};
 ghost use Rattle.contourbuilder.specs.Contours.{ContoursBuilt};
 ghost use Rattle.isoringbuilder.specs.Answers.{RingsBuilt};
