@@ -1,25 +1,19 @@
--- What words hold: from a place on, whether one lies above a limit, and the points; of sound words, how many there are; of a ring, its last point.
--- Each law takes the next word or the next point off the front. Assumes nothing.
+-- What words hold: from a place on, the points, the next one off the front; of sound words, how many there are; of a ring, its last point. Assumes nothing.
 use mathlib.Core.Path.{_≡_, refl}
-use mathlib.Core.Bool.{Bool, true, false, true≢false, _||_}
+use mathlib.Core.Bool.{false}
 use mathlib.Core.List.{List, [], _∷_}
 use Prim.Native.Nat.{ℕ, suc, _+_, _-_, _<_, _≤_, _/_, _%_, _^_}
 use native.Mathlib.Numerals.{add-one, add-two}
 use native.Mathlib.Omega.{arith}
-use lib.Dec.{ltb}
 use lib.ListN.{length, getD, drop}
 use lib.Seq.{drop-cons}
 use borrow.Author.Tests.{eqb-false, ltb-false}
-use Rattle.scope.specs.Area.{points, anyAbove, faultyWords, areaRefused, lastOf}
+use Rattle.scope.specs.Area.{points, faultyWords, areaRefused, lastOf}
 use Rattle.scope.specs.Cells.{Point}
 use Rattle.scope.specs.Limits.{pointLimit}
 use Rattle.scope.specs.Stitching.{Line}
-
--- a word above the limit is the next one, or stands after it
-pub above-next : (limit : ℕ) (ws : List ℕ) (i : ℕ) → i < length ws →
-    anyAbove limit (drop i ws) ≡ ltb limit (getD ws i 0) || anyAbove limit (drop (i + 1) ws)
-unfolding anyAbove
-above-next limit ws i h = rw (add-one, drop-cons ws i 0)
+use Rattle.laws.proofs.Tests.{neither}
+use Rattle.laws.proofs.Words.{last-of}
 
 -- the point whose words stand at i and i + 1
 unfoldable pub pointAt : List ℕ → ℕ → Point
@@ -37,11 +31,6 @@ next-point ws i h =
 pub record Sound (ws : List ℕ) : Type 0 where
   pub paired : length ws % 2 ≡ 0
   pub few : length ws < 2 ^ 31
-
--- a test of two that fails, fails at both
-neither : (a b : Bool) → a || b ≡ false → (a ≡ false) × (b ≡ false)
-neither true b e = absurd (true≢false e)
-neither false b e = (refl, e)
 
 -- words that are not faulty are sound
 pub sound : (ws : List ℕ) → faultyWords ws ≡ false → Sound ws
@@ -70,14 +59,6 @@ pub record Ring (ws : List ℕ) : Type 0 where
   pub rest : Line
   pub are : points ws ≡ first ∷ rest
   pub last : lastOf first rest ≡ lastPoint ws
-
--- the last point of a point and words after it
-last-of : (x y : ℕ) (ws : List ℕ) → length ws % 2 ≡ 0 →
-    lastOf (record { x = x; y = y }) (points ws) ≡ record { x = getD (x ∷ y ∷ ws) (length ws) 0; y = getD (x ∷ y ∷ ws) (suc (length ws)) 0 }
-unfolding points lastOf
-last-of x y [] h = refl
-last-of x y (z ∷ []) h = absurd (omega (arith, h))
-last-of x y (z ∷ w ∷ ws) h = last-of z w ws (omega arith)
 
 -- sound words of one point or more are a ring
 pub ring : (ws : List ℕ) → Sound ws → 0 < length ws → Ring ws

@@ -1,49 +1,16 @@
--- A number's text digit by digit: the last digit stands behind the text of the tenth, and so the text is the digits of the units from a power of 10 down,
--- those that the number reaches. By induction on the power. Assumes nothing.
-use mathlib.Core.Path.{_≡_, refl, sym, ap, ap₂, _∙_}
-use mathlib.Core.Bool.{Bool, true, false, cond}
+-- A number's text is the digits of the units from a power of 10 down, those that the number reaches. By induction on the power. Assumes nothing.
+use mathlib.Core.Path.{_≡_, sym, ap, ap₂, _∙_}
+use mathlib.Core.Bool.{Bool, cond}
 use mathlib.Core.List.{List, [], _∷_, _++_, append-assoc}
 use Prim.Native.Nat.{ℕ, zero, suc, _+_, _*_, _/_, _%_, _^_, _≤_, _<_}
 use native.Mathlib.Nat.{pow-succ', one-le-pow, div-div-eq-div-mul}
 use native.Mathlib.Decide.{decLt}
 use native.Mathlib.Omega.{arith}
 use lib.Dec.{ltb}
-use borrow.Author.Tests.{ltb-false, lt-ltb, le-ltb}
-use Rattle.scope.specs.GeoJson.{decimalBy, decimal}
+use borrow.Author.Tests.{lt-ltb, le-ltb}
+use Rattle.scope.specs.GeoJson.{decimal}
+use Rattle.laws.proofs.Digits.{one-digit, last-digit}
 use Rattle.geotext.specs.Pieces.{digitText}
-
--- ---- the definition's steps
-
--- more digits than the number has change nothing
-enough : (d e n : ℕ) → n ≤ d → n ≤ e → (b : Bool) → ltb n 10 ≡ b → decimalBy d b n ≡ decimalBy e b n
-unfolding decimalBy
-enough zero zero n h k b t = refl
-enough zero (suc e) n h k true t = refl
-enough zero (suc e) n h k false t = absurd (omega (arith, ltb-false n 10 t))
-enough (suc d) zero n h k true t = refl
-enough (suc d) zero n h k false t = absurd (omega (arith, ltb-false n 10 t))
-enough (suc d) (suc e) n h k true t = refl
-enough (suc d) (suc e) n h k false t =
-    let many = ltb-false n 10 t in
-    rw (enough d e (n / 10) (omega arith) (omega arith) (ltb (n / 10) 10) refl)
-
--- a number below 10 is one digit
-one-digit : (n : ℕ) → n < 10 → decimal n ≡ (48 + n) ∷ []
-unfolding decimal decimalBy
-one-digit n h = rw (lt-ltb n 10 h) (by n n)
-  where
-    by : (d n : ℕ) → decimalBy d true n ≡ (48 + n) ∷ []
-    by zero n = refl
-    by (suc d) n = refl
-
--- else the last digit stands behind the tenth
-last-digit : (n : ℕ) → 10 ≤ n → decimal n ≡ decimal (n / 10) ++ ((48 + n % 10) ∷ [])
-unfolding decimal decimalBy
-last-digit zero h = absurd (omega arith)
-last-digit (suc m) h =
-    rw (le-ltb (suc m) 10 h, enough m (suc m / 10) (suc m / 10) (omega arith) (omega arith) (ltb (suc m / 10) 10) refl)
-
--- ---- the digits by their units
 
 pub digit-below : (n unit : ℕ) → n < unit → digitText n unit ≡ []
 unfolding digitText

@@ -12,8 +12,8 @@ use borrow.Author.Tests.{ltb-false, eqb-true, eqb-false}
 use Rattle.scope.specs.Limits.{coordinateLimit}
 use Rattle.scope.specs.Area.{points, anyAbove}
 use Rattle.scope.specs.GeoJson.{wordsIn, decimal, coordinateText, joined, bracketed, pointText, ringText}
+use Rattle.laws.proofs.Tests.{neither}
 use Rattle.laws.proofs.Total.{total}
-use Rattle.ringset.proofs.Below.{neither}
 use Rattle.geotext.specs.Pieces.{digitText}
 use Rattle.geotext.proofs.Digits.{digit-below, digit-reached, digits-by-units}
 

@@ -1,11 +1,17 @@
 -- Packing: each way out of it is what the verdict on the output tables says, whatever words a link's point has. Assumes nothing.
-use mathlib.Core.Path.{_≡_, sym, ap}
+use mathlib.Core.Path.{_≡_, refl, sym, _∙_, ap}
+use mathlib.Core.Bool.{Bool, cond}
 use mathlib.Core.List.{List}
-use Prim.Native.Nat.{ℕ, _≤_, _<_}
+use Prim.Native.Nat.{ℕ, _*_, _/_, _<_}
+use native.Mathlib.Decide.{decLt}
+use native.Mathlib.Omega.{arith}
+use lib.Dec.{ltb}
 use lib.ListN.{length}
 use lib.Seq.{sets}
 use borrow.Author.Tests.{lt-ltb, le-ltb}
+use Rattle.error.specs.declared.Refusal.{Refusal}
 use Rattle.error.specs.declared.Refusal.the-variants.{PointsShort, DirectoryShort}
+use Rattle.scope.specs.Limits.{recordStride}
 use Rattle.scope.specs.Room.{pointWords, directoryWords}
 use Rattle.machine.specs.Walk as walk
 use Rattle.machine.specs.Walk.{walkWords, walkRecords}
@@ -21,7 +27,29 @@ pub record PackedAs {Word : Type 0} (words : List ℕ → ℕ → List Word) (d 
   pub points-are : points′ ≡ passTable (roomVerdict (d .segments) (d .rings) (length points) (length directory)) points (sets points 0 (walkWords (words links) links (d .head) (d .head) (d .segments)))
   pub directory-is : directory′ ≡ passTable (roomVerdict (d .segments) (d .rings) (length points) (length directory)) directory (sets directory 0 (walkRecords links 0 0 (d .head) (d .segments)))
 
-module _ {Word : Type 0} (words : List ℕ → ℕ → List Word) (d : Drawing) (links : List ℕ) (points : List Word) (directory : List ℕ) where
+-- a refusal comes of a refused verdict, and rings of one that passes
+module _ {Word : Type 0} (old new : List Word) (rings : ℕ) where
+  pub refusal-spares : (v : Verdict) (why : Refusal) → packed v rings ≡ built-is.Refused why → old ≡ passTable v old new
+  unfolding packed passTable
+  refusal-spares (refused other) why e = refl
+  refusal-spares passes why e = absurd (let z : _≡_ {A = ℕ} 0 1 = cc in omega arith)
+
+  pub rings-are-stored : (v : Verdict) (n : ℕ) → packed v rings ≡ built-is.Rings n → new ≡ passTable v old new
+  unfolding packed passTable
+  rings-are-stored (refused why) n e = absurd (let z : _≡_ {A = ℕ} 0 1 = cc in omega arith)
+  rings-are-stored passes n e = refl
+
+-- words that are no whole record hold no ring
+whole-records : (s r points words : ℕ) → roomVerdict s r points (directoryWords (words / recordStride)) ≡ roomVerdict s r points words
+unfolding roomVerdict directoryWords recordStride
+whole-records s r points words = ap (λ (short : Bool). cond (ltb points (pointWords s r)) (refused PointsShort) (cond short (refused DirectoryShort) passes)) (by (decLt words (4 * r)))
+  where
+    by : Dec (words < 4 * r) → ltb (4 * (words / 4)) (4 * r) ≡ ltb words (4 * r)
+    by (yes h) = lt-ltb (4 * (words / 4)) (4 * r) (omega arith) ∙ sym (lt-ltb words (4 * r) h)
+    by (no h) = le-ltb (4 * (words / 4)) (4 * r) (omega arith) ∙ sym (le-ltb words (4 * r) (omega arith))
+
+module _ {Word : Type 0} (words : List ℕ → ℕ → List Word) (d : Drawing) (links : List ℕ) (points : List Word) (directory : List ℕ) (answer : Built)
+    (answers : answer ≡ packed (roomVerdict (d .segments) (d .rings) (length points) (directoryWords (length directory / recordStride))) (d .rings)) where
   abbrev verdict : Verdict
   verdict = roomVerdict (d .segments) (d .rings) (length points) (length directory)
 
@@ -31,29 +59,22 @@ module _ {Word : Type 0} (words : List ℕ → ℕ → List Word) (d : Drawing) 
   abbrev stored-records : List ℕ
   stored-records = sets directory 0 (walkRecords links 0 0 (d .head) (d .segments))
 
-  by-verdict : (v : Verdict) → verdict ≡ v → PackedAs words d links points directory (packed v (d .rings)) (passTable v points stored-points) (passTable v directory stored-records)
-  by-verdict v e = record {
-    answers = ap (λ (w : Verdict). packed w (d .rings)) (sym e);
-    points-are = ap (λ (w : Verdict). passTable w points stored-points) (sym e);
-    directory-is = ap (λ (w : Verdict). passTable w directory stored-records) (sym e);
+  by-words : answer ≡ packed verdict (d .rings)
+  by-words = answers ∙ ap (λ (v : Verdict). packed v (d .rings)) (whole-records (d .segments) (d .rings) (length points) (length directory))
+
+  pub spared : (why : Refusal) → answer ≡ built-is.Refused why → PackedAs words d links points directory answer points directory
+  spared why is = record {
+    answers = by-words;
+    points-are = refusal-spares points stored-points (d .rings) verdict why (sym by-words ∙ is);
+    directory-is = refusal-spares directory stored-records (d .rings) verdict why (sym by-words ∙ is);
   }
 
-  pub points-short : length points < pointWords (d .segments) (d .rings) → PackedAs words d links points directory (built-is.Refused PointsShort) points directory
-  unfolding packed passTable
-  points-short h = by-verdict (refused PointsShort) (unfold roomVerdict in rw (lt-ltb (length points) (pointWords (d .segments) (d .rings)) h))
-
-  module _ (fit : pointWords (d .segments) (d .rings) ≤ length points) where
-    pub directory-short : length directory < directoryWords (d .rings) → PackedAs words d links points directory (built-is.Refused DirectoryShort) points directory
-    unfolding packed passTable
-    directory-short h =
-        by-verdict (refused DirectoryShort)
-        (unfold roomVerdict in rw (le-ltb (length points) (pointWords (d .segments) (d .rings)) fit, lt-ltb (length directory) (directoryWords (d .rings)) h))
-
-    pub both-fit : directoryWords (d .rings) ≤ length directory → PackedAs words d links points directory (built-is.Rings (d .rings)) stored-points stored-records
-    unfolding packed passTable
-    both-fit h =
-        by-verdict passes
-        (unfold roomVerdict in rw (le-ltb (length points) (pointWords (d .segments) (d .rings)) fit, le-ltb (length directory) (directoryWords (d .rings)) h))
+  pub stored : (n : ℕ) → answer ≡ built-is.Rings n → PackedAs words d links points directory answer stored-points stored-records
+  stored n is = record {
+    answers = by-words;
+    points-are = rings-are-stored points stored-points (d .rings) verdict n (sym by-words ∙ is);
+    directory-is = rings-are-stored directory stored-records (d .rings) verdict n (sym by-words ∙ is);
+  }
 
 -- a ring's points have words of 16 bits
 module _ {d : Drawing} {dx : ℕ} {links points directory : List ℕ} {answer : Built} {points′ directory′ : List ℕ} where

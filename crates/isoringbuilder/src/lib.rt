@@ -14,10 +14,11 @@ ghost use mathlib.Core.Path.{_≡_};
 ghost use Prim.Native.Nat.{_≤_};
 ghost use lib.ListN.{length};
 ghost use Rattle.scope.specs.Limits.{sideLimit};
-ghost use Rattle.scope.specs.Room.{openWords, linkWords};
+ghost use Rattle.scope.specs.Room.{openWords, linkWords, directoryWords};
 ghost use Rattle.grid.specs.Grid.{gridFit};
 ghost use Rattle.isoringbuilder.specs.Answers.{SecondReported, RingsBuilt};
-ghost use Rattle.isoringbuilder.specs.Pass.{Passed, Packed};
+ghost use Rattle.isoringbuilder.specs.Verdict.{roomVerdict};
+ghost use Rattle.isoringbuilder.specs.Pass.{packed, Passed, Packed};
 
 // What the second report answers.
 pub enum SecondReport {
@@ -149,6 +150,19 @@ pub fn second_report(
     }
 }
 
+// How many rings are built, or why none is: the points have so many words, and there is room for so many records.
+pub fn answer_for(segments: u32, rings: u32, points: usize, room: usize) -> Built
+    ensures { λ r. ⌜ r ≡ packed (roomVerdict segments rings points (directoryWords room)) rings ⌝ }
+{
+    if points < 2 * (segments as usize + rings as usize) {
+        return Built::Refused(Refusal::PointsShort);
+    }
+    if room < rings as usize {
+        return Built::Refused(Refusal::DirectoryShort);
+    }
+    Built::Rings(rings)
+}
+
 // The points and the directory of the rings that a pass has drawn, where both fit; both are spared where one does not.
 pub fn pack(
     drawing: Drawing,
@@ -162,14 +176,13 @@ pub fn pack(
     let segments = drawing.segments;
     let rings = drawing.rings;
     let head = drawing.head;
-    if points.len() < 2 * (segments as usize + rings as usize) {
-        return Built::Refused(Refusal::PointsShort);
-    }
-    if directory.len() < RECORD_STRIDE * (rings as usize) {
-        return Built::Refused(Refusal::DirectoryShort);
-    }
+    let room = directory.len() / RECORD_STRIDE;
+    let answer = answer_for(segments, rings, points.len(), room);
+    let Built::Rings(_) = answer else {
+        return answer;
+    };
     write_rings(links, dx, head, segments, points, directory);
-    Built::Rings(rings)
+    answer
 }
 
 // Every ring of a grid at one threshold, in the crate's order, vertex order and first vertex, as bare rings: points packed by ring number, and a directory

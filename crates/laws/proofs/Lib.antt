@@ -18,3 +18,5 @@ pub mod Rules
 pub mod Peak
 pub mod Laws
 pub mod Tests
+pub mod Words
+pub mod Digits

@@ -32,7 +32,7 @@ use Rattle.isoringbuilder.specs.declared.Built.{Built}
 use Rattle.isoringbuilder.specs.declared.Built.the-variants as built-is
 use Rattle.isoringbuilder.specs.declared.Drawing.{Drawing}
 use Rattle.isoringbuilder.proofs.Limits.{outside}
-use Rattle.isoringbuilder.proofs.Packing.{PackedAs, as-packed}
+use Rattle.isoringbuilder.proofs.Packing.{PackedAs, refusal-spares, rings-are-stored, as-packed}
 use Rattle.isoringbuilder.proofs.Laws.{Done, rings-refused, built-done}
 use Rattle.bands.proofs.Stitched.{stitched-over}
 use Rattle.linebuilder.specs.Lines.{LinesBuilt}
@@ -47,23 +47,16 @@ use Rattle.laying.specs.Bare.{bareLaid, LaidAlong}
 
 module _ {Word : Type 0} (d : Drawing) (room : ℕ) (points walked : List Word) (answer : Built) (laid : Laid) (answers : answer ≡ packed (roomVerdict (d .segments) (d .rings) (length points) (directoryWords room)) (d .rings))
     (laid-is : laid ≡ bareLaid answer (d .head) (d .segments)) where
+  abbrev verdict : Verdict
+  verdict = roomVerdict (d .segments) (d .rings) (length points) (directoryWords room)
+
   -- a refusal spares them
   pub spared : (why : Refusal) → answer ≡ built-is.Refused why → LaidAlong d room points walked laid points
-  unfolding packed passTable
-  spared why is = record { laid-is = laid-is ∙ rw answers; points-are = by (roomVerdict (d .segments) (d .rings) (length points) (directoryWords room)) (sym answers ∙ is) }
-    where
-      by : (v : Verdict) → packed v (d .rings) ≡ built-is.Refused why → points ≡ passTable v points (sets points 0 walked)
-      by (refused other) e = refl
-      by passes e = absurd (let z : _≡_ {A = ℕ} 0 1 = cc in omega arith)
+  spared why is = record { laid-is = laid-is ∙ rw answers; points-are = refusal-spares points (sets points 0 walked) (d .rings) verdict why (sym answers ∙ is) }
 
   -- rings have theirs stored
   pub stored : (n : ℕ) → answer ≡ built-is.Rings n → (points′ : List Word) → points′ ≡ sets points 0 walked → LaidAlong d room points walked laid points′
-  unfolding packed passTable
-  stored n is points′ stores = record { laid-is = laid-is ∙ rw answers; points-are = stores ∙ by (roomVerdict (d .segments) (d .rings) (length points) (directoryWords room)) (sym answers ∙ is) }
-    where
-      by : (v : Verdict) → packed v (d .rings) ≡ built-is.Rings n → sets points 0 walked ≡ passTable v points (sets points 0 walked)
-      by (refused why) e = absurd (let z : _≡_ {A = ℕ} 0 1 = cc in omega arith)
-      by passes e = refl
+  stored n is points′ stores = record { laid-is = laid-is ∙ rw answers; points-are = stores ∙ rings-are-stored points (sets points 0 walked) (d .rings) verdict n (sym answers ∙ is) }
 
 -- ---- the records, by the answer
 

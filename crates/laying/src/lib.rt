@@ -1,10 +1,10 @@
 // Builds that leave their records in the link table, along the links of their rings, so that the records can be handed out afterwards. Nothing is asked of the
 // caller.
 use cells::Level;
-use error::Refusal;
 use isoringbuilder::Built;
 use isoringbuilder::Drawing;
 use isoringbuilder::Pass;
+use isoringbuilder::answer_for;
 use isoringbuilder::link_words;
 use isoringbuilder::open_words;
 use isoringbuilder::run_pass;
@@ -16,29 +16,13 @@ use sources::Laid;
 use sources::Source;
 ghost use mathlib.Core.Path.{_≡_};
 ghost use Prim.Native.Nat.{_+_, _*_, _^_, _<_};
-ghost use Rattle.scope.specs.Room.{directoryWords};
 ghost use Rattle.machine.specs.Walk.{walkWords, walkPoints};
 ghost use Rattle.smoothing.specs.Values.{placingOf};
 ghost use Rattle.plotting.specs.Plot.{vertexAt};
-ghost use Rattle.isoringbuilder.specs.Verdict.{roomVerdict};
 ghost use Rattle.isoringbuilder.specs.Answers.{RingsBuilt};
-ghost use Rattle.isoringbuilder.specs.Pass.{packed};
 ghost use Rattle.linebuilder.specs.Lines.{LinesBuilt};
 ghost use Rattle.sources.specs.Laid.{ringsIn, LaidOver};
 ghost use Rattle.laying.specs.Bare.{bareLaid, LaidAlong};
-
-// How many rings are built, or why none is: the points have so many words, and there is room for so many records.
-fn answer_for(segments: u32, rings: u32, points: usize, room: usize) -> Built
-    ensures { λ r. ⌜ r ≡ packed (roomVerdict segments rings points (directoryWords room)) rings ⌝ }
-{
-    if points < 2 * (segments as usize + rings as usize) {
-        return Built::Refused(Refusal::PointsShort);
-    }
-    if room < rings as usize {
-        return Built::Refused(Refusal::DirectoryShort);
-    }
-    Built::Rings(rings)
-}
 
 // How many rings an answer gives.
 fn rings_in(answer: Built) -> usize

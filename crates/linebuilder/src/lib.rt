@@ -1,9 +1,9 @@
 // The lines of a grid at one threshold, smoothed and placed, over tables that the caller lends: every line or none. Nothing is asked of the caller.
 use cells::Level;
-use error::Refusal;
 use isoringbuilder::Built;
 use isoringbuilder::Drawing;
 use isoringbuilder::Pass;
+use isoringbuilder::answer_for;
 use isoringbuilder::link_words;
 use isoringbuilder::open_words;
 use isoringbuilder::run_pass;
@@ -35,12 +35,11 @@ fn plot(
     let segments = drawing.segments;
     let rings = drawing.rings;
     let head = drawing.head;
-    if points.len() < 2 * (segments as usize + rings as usize) {
-        return Built::Refused(Refusal::PointsShort);
-    }
-    if directory.len() < RECORD_STRIDE * (rings as usize) {
-        return Built::Refused(Refusal::DirectoryShort);
-    }
+    let room = directory.len() / RECORD_STRIDE;
+    let answer = answer_for(segments, rings, points.len(), room);
+    let Built::Rings(_) = answer else {
+        return answer;
+    };
     write_lines(
         values,
         level,
@@ -54,7 +53,7 @@ fn plot(
         points,
         directory,
     );
-    Built::Rings(rings)
+    answer
 }
 
 // Every ring of a grid at one threshold as a line, in the crate's order, vertex order and first vertex: points packed by ring number, smoothed where that is

@@ -1,9 +1,9 @@
 -- One stitch that takes a line away, filed: two lines join, or one closes. The last line's tips lie on columns, so its new slot is filed under their words.
 -- Assumes nothing.
-use mathlib.Core.Path.{_≡_, refl, sym, _∙_, ap, ap₂, subst}
+use mathlib.Core.Path.{_≡_, refl, sym, _∙_, ap, subst}
 use mathlib.Core.Bool.{Bool, true, false, cond, false≢true}
 use mathlib.Core.List.{List, [], _∷_, _++_}
-use Prim.Native.Nat.{ℕ, zero, suc, _+_, _-_, _*_, _%_, _^_, _≤_, _<_}
+use Prim.Native.Nat.{ℕ, suc, _+_, _-_, _*_, _%_, _^_, _≤_, _<_}
 use native.Mathlib.Decide.{ℕ-discrete}
 use native.Mathlib.Omega.{arith}
 use lib.Dec.{eqb}
@@ -17,12 +17,14 @@ use Rattle.laws.proofs.Ends.{start-of-joined, end-of-joined}
 use Rattle.laws.proofs.Strokes.{Role, begin, finish}
 use Rattle.laws.proofs.Tips.{Tip, tipBy, edgeWord, WordsApart}
 use Rattle.machine.specs.Machine.{mark, wordOf, columnWord, firstLink, lastLink, endPoint, linkCount, linkPoint, withSlot, withNext, withLink, released, Tables, joinedLinks, joinedLines, joined, closedLinks, closed}
-use Rattle.machine.proofs.Views.{Slot, slotAt, length-withSlot, frontier-of-withSlot, length-withNext, length-withLink, past-filed, past-withSlot, past-withNext, past-withLink}
-use Rattle.machine.proofs.Held.{HeldLine, Held}
+use Rattle.machine.proofs.Views.{slotAt, length-withSlot, frontier-of-withSlot, length-withNext, length-withLink, past-filed, past-withSlot, past-withNext, past-withLink}
+use Rattle.machine.proofs.Held.{HeldLine}
 use Rattle.machine.proofs.Removal.{dropAt, drop-same, drop-other, length-drop-at, length-released, column-in-frontier, past-released}
-use Rattle.machine.proofs.Ops.{last-below, tail-below, join-held, joined-others, close-held, closed-others}
-use Rattle.machine.proofs.Filing.{start-tip, end-tip, starts-is, ends-is, ends-at-end, column-of-even, Filed, Framed, filed-anew, filed-left}
-use Rattle.machine.proofs.Steps.{Kept, Carried, links-fit, frontier-fits, held-line, framed-by}
+use Rattle.machine.proofs.Ready.{last-below}
+use Rattle.machine.proofs.Join.{joined-others, join-held}
+use Rattle.machine.proofs.Close.{tail-below, closed-others, close-held}
+use Rattle.machine.proofs.Filing.{start-tip, end-tip, starts-is, ends-is, ends-at-end, column-of-even, Filed, Framed, filed-left}
+use Rattle.machine.proofs.Steps.{Kept, Carried, ready, frontier-fits, framed-by}
 
 -- every tip counts
 abbrev pub all : Point → Type 0
@@ -67,7 +69,7 @@ module _ (dx h room : ℕ) (kept : Kept) (n : ℕ) (d : Drawing) (t : Tables) (n
   module _ (f : ℕ) (hf : f < length (d .lines)) (ends-here : endsAt (indexedPoint dx s) (getD (d .lines) f []) ≡ true) (starts-here : startsAt (indexedPoint dx e) (getD (d .lines) f []) ≡ true)
       (numbers : n ≤ mark) (columns : Columns (rules.close d f (indexedPoint dx e) .lines)) where
     held-f : HeldLine dx (t .links) (slotAt dx (t .lines) f) (getD (now .chains) f []) (getD (d .lines) f [])
-    held-f = held-line dx h room kept n all all d t now small f hf
+    held-f = now .held .lines-held f hf
 
     at-end : indexedPoint dx s ≡ indexedPoint dx (endPoint dx (t .lines) f)
     at-end = ends-is dx (t .links) (slotAt dx (t .lines) f) (getD (now .chains) f []) (getD (d .lines) f []) held-f (indexedPoint dx s) ends-here
@@ -76,13 +78,13 @@ module _ (dx h room : ℕ) (kept : Kept) (n : ℕ) (d : Drawing) (t : Tables) (n
     at-start = sym (starts-is dx (t .links) (slotAt dx (t .lines) f) (getD (now .chains) f []) (getD (d .lines) f []) held-f (indexedPoint dx e) starts-here)
 
     others : (i : ℕ) → i < length (d .lines) → (i ≡ f → ⊥) → HeldLine dx (closedLinks dx t n s f) (slotAt dx (t .lines) i) (getD (now .chains) i []) (getD (d .lines) i [])
-    others = closed-others dx n h t d (now .chains) (now .loops) (now .held) (now .lines-long) (links-fit dx h room kept n all all d t now small) f hf s e at-end at-start numbers
+    others = closed-others (ready now small) f hf s e at-end at-start numbers
 
     pub close-carried : length (now .loops) + 1 < 2 ^ 32 → Carried dx h room kept (suc n) all (rules.close d f (indexedPoint dx e)) (closed dx t n s f)
     close-carried rings-fit = record {
       chains = _;
       loops = _;
-      held = close-held dx n h t d (now .chains) (now .loops) (now .held) (now .lines-long) (links-fit dx h room kept n all all d t now small) f hf s e at-end at-start fits rings-fit numbers;
+      held = close-held (ready now small) f hf s e at-end at-start fits rings-fit numbers;
       filed = left (length (d .lines) - 1) (omega arith);
       lines-long = unfold closed in rw (length-released dx (t .lines) (closedLinks dx t n s f) (t .progress .count - 1) f) (now .lines-long);
       links-long = unfold closed in subst (λ (k : ℕ). 2 * room ≤ k) (sym long-links) (now .links-long);
@@ -99,7 +101,7 @@ module _ (dx h room : ℕ) (kept : Kept) (n : ℕ) (d : Drawing) (t : Tables) (n
         past-base : drop (2 * room) base ≡ drop (2 * room) (t .links)
         past-base =
             past-withNext room (withLink (t .links) n s mark) (lastLink dx (t .lines) f) n
-            (omega (arith, last-below dx n h t d (now .chains) (now .loops) (now .held) (now .lines-long) (links-fit dx h room kept n all all d t now small) f hf))
+            (omega (arith, last-below (ready now small) f hf))
             ∙ past-withLink room (t .links) n s mark small
 
         past-links : (l : List (List ℕ)) → now .loops ≡ l → drop (2 * room) (closedLinks dx t n s f) ≡ drop (2 * room) (t .links)
@@ -110,7 +112,7 @@ module _ (dx h room : ℕ) (kept : Kept) (n : ℕ) (d : Drawing) (t : Tables) (n
             unfold closedLinks in
             subst (λ (b : Bool). drop (2 * room) (links-by b) ≡ drop (2 * room) (t .links)) (sym (ne-eqb (t .progress .rings) 0 (λ z. omega (arith, now .held .rings-are, ap length some))))
             (past-withNext room base (t .progress .tail) (wordOf (mark + firstLink dx (t .lines) f))
-            (omega (arith, tail-below dx n h t d (now .chains) (now .loops) (now .held) (now .lines-long) (links-fit dx h room kept n all all d t now small) f hf s e at-end at-start q qs some numbers))
+            (omega (arith, tail-below (ready now small) q qs some))
             ∙ past-base)
 
         long-links : length (closedLinks dx t n s f) ≡ length (t .links)
@@ -124,7 +126,7 @@ module _ (dx h room : ℕ) (kept : Kept) (n : ℕ) (d : Drawing) (t : Tables) (n
         left m long j hj p tip live =
             unfold closed in
             subst (λ (k : ℕ). getD (released dx (t .lines) (closedLinks dx t n s f) k f) (edgeWord dx p) 0 ≡ j) (sym one-fewer)
-            (filed-left dx (t .lines) (closedLinks dx t n s f) (d .lines) m f long (omega arith) (frontier-fits dx h room kept n all all d t now small)
+            (filed-left dx (t .lines) (closedLinks dx t n s f) (d .lines) m f long (omega arith) (frontier-fits now)
             (λ i hi ne q was. now .filed i (omega arith) q was tt)
             (λ i hi q was. lines-framed i (omega arith) q was)
             (λ i k hi hk ni nk q r was was′ w. apart i k (omega arith) (omega arith) q r was was′ w)
@@ -164,7 +166,7 @@ module _ (dx h room : ℕ) (kept : Kept) (n : ℕ) (d : Drawing) (t : Tables) (n
     links = joinedLinks dx t n s f g
 
     ends-at : indexedPoint dx s ≡ indexedPoint dx (endPoint dx (t .lines) f)
-    ends-at = ends-is dx (t .links) (slotAt dx (t .lines) f) (getD (now .chains) f []) (getD (d .lines) f []) (held-line dx h room kept n all all d t now small f hf) (indexedPoint dx s) ends-here
+    ends-at = ends-is dx (t .links) (slotAt dx (t .lines) f) (getD (now .chains) f []) (getD (d .lines) f []) (now .held .lines-held f hf) (indexedPoint dx s) ends-here
 
     -- where a tip of the lines with f and g together was a tip before
     data Was (i : ℕ) (p : Point) : Type 0 where
@@ -206,11 +208,11 @@ module _ (dx h room : ℕ) (kept : Kept) (n : ℕ) (d : Drawing) (t : Tables) (n
 
     end-is-Z : (p : Point) → endsAt p (getD (d .lines) g []) ≡ true → p ≡ Z
     unfolding Z
-    end-is-Z p k = ends-is dx (t .links) (slotAt dx (t .lines) g) (getD (now .chains) g []) (getD (d .lines) g []) (held-line dx h room kept n all all d t now small g hg) p k
+    end-is-Z p k = ends-is dx (t .links) (slotAt dx (t .lines) g) (getD (now .chains) g []) (getD (d .lines) g []) (now .held .lines-held g hg) p k
 
     ends-at-Z : endsAt Z (getD (d .lines) g []) ≡ true
     unfolding Z
-    ends-at-Z = ends-at-end dx (t .links) (slotAt dx (t .lines) g) (getD (now .chains) g []) (getD (d .lines) g []) (held-line dx h room kept n all all d t now small g hg)
+    ends-at-Z = ends-at-end dx (t .links) (slotAt dx (t .lines) g) (getD (now .chains) g []) (getD (d .lines) g []) (now .held .lines-held g hg)
 
     Z-is-tip : Tip Z (getD both f [])
     Z-is-tip =
@@ -265,7 +267,7 @@ module _ (dx h room : ℕ) (kept : Kept) (n : ℕ) (d : Drawing) (t : Tables) (n
               ∙ getD-set-same stored w f 0 (omega (
                 arith,
                 length-withSlot dx (t .lines) f (firstLink dx (t .lines) f) (lastLink dx (t .lines) g) (endPoint dx (t .lines) g) (wordOf (linkCount dx (t .lines) f + linkCount dx (t .lines) g + 1)),
-                frontier-fits dx h room kept n all all d t now small,
+                frontier-fits now,
                 framed-both i (omega arith) p tip,
                 q,
               ))
@@ -281,13 +283,13 @@ module _ (dx h room : ℕ) (kept : Kept) (n : ℕ) (d : Drawing) (t : Tables) (n
       last-held : (m ≡ g → ⊥) → HeldLine dx links (slotAt dx table m) (chain-of m) (getD both m [])
       unfolding chain-of
       last-held away =
-          joined-others dx n h t d (now .chains) (now .loops) (now .held) (now .lines-long) (links-fit dx h room kept n all all d t now small) f g hf hg ne s fits ends-at m (omega arith) away
+          joined-others (ready now small) f g hf hg ne s fits ends-at m (omega arith) away
 
       left-filed : Filed dx all (joined dx t n s f g .lines) (rules.join d f g .lines)
       left-filed j hj p tip live =
           unfold joined in
           subst (λ (k : ℕ). getD (released dx table links k g) (edgeWord dx p) 0 ≡ j) (sym one-fewer)
-          (filed-left dx table links both m g both-long (omega arith) (omega (arith, long-table, frontier-fits dx h room kept n all all d t now small))
+          (filed-left dx table links both m g both-long (omega arith) (omega (arith, long-table, frontier-fits now))
           filed-both
           (λ i hi q b. framed-both i (omega arith) q b)
           (λ i k hi hk ni nk q r a b w. apart-both i k (omega arith) (omega arith) ni nk q r a b w)
@@ -303,7 +305,7 @@ module _ (dx h room : ℕ) (kept : Kept) (n : ℕ) (d : Drawing) (t : Tables) (n
     join-carried = record {
       chains = _;
       loops = now .loops;
-      held = join-held dx n h t d (now .chains) (now .loops) (now .held) (now .lines-long) (links-fit dx h room kept n all all d t now small) f g hf hg ne s fits ends-at;
+      held = join-held (ready now small) f g hf hg ne s fits ends-at;
       filed = left-filed (length (d .lines) - 1) (omega arith);
       lines-long = unfold joined in rw (length-released dx table links (t .progress .count - 1) g, long-table) (now .lines-long);
       links-long = unfold joined joinedLinks in simp (length-withNext, length-withLink) (now .links-long);
@@ -316,7 +318,7 @@ module _ (dx h room : ℕ) (kept : Kept) (n : ℕ) (d : Drawing) (t : Tables) (n
       links-past =
           unfold joined joinedLinks in
           past-withNext room (withLink (t .links) n s (firstLink dx (t .lines) g)) (lastLink dx (t .lines) f) n
-          (omega (arith, last-below dx n h t d (now .chains) (now .loops) (now .held) (now .lines-long) (links-fit dx h room kept n all all d t now small) f hf))
+          (omega (arith, last-below (ready now small) f hf))
           ∙ past-withLink room (t .links) n s (firstLink dx (t .lines) g) small
           ∙ now .links-past;
     }

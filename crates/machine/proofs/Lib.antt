@@ -4,7 +4,11 @@ pub mod Chains
 pub mod Held
 pub mod Removal
 pub mod Extend
-pub mod Ops
+pub mod Ready
+pub mod Append
+pub mod Start
+pub mod Join
+pub mod Close
 pub mod Filing
 pub mod Steps
 pub mod Leaves

@@ -1,24 +1,23 @@
 -- One stitch of the table machine: the tables hold the drawing after the rule, and every tip that counts is filed. Assumes nothing.
-use mathlib.Core.Path.{_≡_, refl, sym, _∙_, ap, ap₂, subst}
-use mathlib.Core.Bool.{Bool, true, false, cond, false≢true, true≢false}
+use mathlib.Core.Path.{_≡_, sym, _∙_, subst}
+use mathlib.Core.Bool.{true}
 use mathlib.Core.List.{List, [], _∷_, _++_}
-use Prim.Native.Nat.{ℕ, zero, suc, _+_, _-_, _*_, _%_, _^_, _≤_, _<_}
-use native.Mathlib.Decide.{ℕ-discrete}
+use Prim.Native.Nat.{ℕ, suc, _+_, _*_, _^_, _≤_, _<_}
 use native.Mathlib.Omega.{arith}
-use lib.ListN.{length, getD, set, drop, length-set, length-append}
-use lib.Seq.{getD-set-same, getD-set-other}
-use Rattle.scope.specs.Cells.{Point, indexedPoint, samePoint}
+use lib.ListN.{length, getD, set, drop, length-set}
+use Rattle.scope.specs.Cells.{Point, indexedPoint}
 use Rattle.scope.specs.Stitching as rules
-use Rattle.scope.specs.Stitching.{Line, Drawing, startsAt, endsAt, without}
-use Rattle.laws.proofs.Ends.{same-eq, start-of-joined, end-of-joined, end-of-appended, end-of-prepended}
+use Rattle.scope.specs.Stitching.{Line, Drawing, startsAt, endsAt}
+use Rattle.laws.proofs.Ends.{same-eq, start-of-joined, end-of-appended, end-of-prepended}
 use Rattle.laws.proofs.Strokes.{Role, begin, finish}
-use Rattle.laws.proofs.Tips.{Tip, tipBy, edgeWord, WordsApart}
-use Rattle.machine.specs.Machine.{mark, wordOf, columnWord, firstLink, lastLink, endPoint, linkCount, linkPoint, withLink, withNext, withSlot, released, Tables, started, appended, prepended, joinedLinks, joinedLines, joined, closedLinks, closed}
+use Rattle.laws.proofs.Tips.{Tip, tipBy, edgeWord}
+use Rattle.machine.specs.Machine.{wordOf, firstLink, lastLink, endPoint, linkCount, withLink, withSlot, Tables, started, appended, prepended}
 use Rattle.machine.proofs.Views.{slotAt, length-withSlot, length-withNext, length-withLink, past-filed, past-withSlot, past-withNext, past-withLink}
-use Rattle.machine.proofs.Held.{HeldLine, Held}
-use Rattle.machine.proofs.Removal.{dropAt, length-released}
-use Rattle.machine.proofs.Ops.{last-below, append-held, prepend-held, start-held}
-use Rattle.machine.proofs.Filing.{start-tip, end-tip, starts-is, ends-is, tip-index, word-in-frontier, column-of-even, Filed, Framed, filed-anew, filed-new, filed-left}
+use Rattle.machine.proofs.Held.{Held}
+use Rattle.machine.proofs.Ready.{Ready, last-below}
+use Rattle.machine.proofs.Append.{append-held, prepend-held}
+use Rattle.machine.proofs.Start.{start-held}
+use Rattle.machine.proofs.Filing.{ends-is, tip-index, word-in-frontier, Filed, Framed, filed-anew, filed-new}
 
 -- the words of the two tables past what a build needs
 pub record Kept : Type 0 where
@@ -36,15 +35,12 @@ pub record Carried (dx h room : ℕ) (kept : Kept) (n : ℕ) (live : Point → T
   pub lines-past : drop (dx + 2 + 4 * h) (t .lines) ≡ kept .past-lines
   pub links-past : drop (2 * room) (t .links) ≡ kept .past-links
 
-module _ (dx h room : ℕ) (kept : Kept) (n : ℕ) (live live′ : Point → Type 0) (d : Drawing) (t : Tables) (now : Carried dx h room kept n live d t) (small : n < room) where
-  pub links-fit : 2 * n + 1 < length (t .links)
-  links-fit = omega (arith, now .links-long)
+module _ {dx h room : ℕ} {kept : Kept} {n : ℕ} {live : Point → Type 0} {d : Drawing} {t : Tables} (now : Carried dx h room kept n live d t) where
+  pub ready : n < room → Ready dx n h t d (now .chains) (now .loops)
+  ready small = record { held = now .held; room = now .lines-long; links-room = omega (arith, now .links-long) }
 
   pub frontier-fits : dx + 2 ≤ length (t .lines)
   frontier-fits = omega (arith, now .lines-long)
-
-  pub held-line : (i : ℕ) → i < length (d .lines) → HeldLine dx (t .links) (slotAt dx (t .lines) i) (getD (now .chains) i []) (getD (d .lines) i [])
-  held-line i hi = now .held .lines-held i hi
 
 -- words of held tips
 pub framed-by : (dx n : ℕ) (t : Tables) (d : Drawing) (chains loops : List (List ℕ)) → Held dx n t d chains loops → Framed dx (d .lines)
@@ -81,7 +77,7 @@ module _ (dx h room : ℕ) (kept : Kept) (n : ℕ) (live live′ : Point → Typ
       filed =
           unfold rules.append appended in
           filed-anew dx live live′ (t .lines) (d .lines) f (getD (d .lines) f [] ++ (indexedPoint dx e ∷ [])) (indexedPoint dx e) (firstLink dx (t .lines) f) n e (wordOf (linkCount dx (t .lines) f + 1))
-          hf (frontier-fits dx h room kept n live live′ d t now small) (now .filed) (framed-by dx (suc n) (appended dx t n s f e (edgeWord dx (indexedPoint dx e))) (rules.append d f (indexedPoint dx e)) _ (now .loops) after)
+          hf (frontier-fits now) (now .filed) (framed-by dx (suc n) (appended dx t n s f e (edgeWord dx (indexedPoint dx e))) (rules.append d f (indexedPoint dx e)) _ (now .loops) after)
           (appended-tips (indexedPoint dx s) (indexedPoint dx e) (getD (d .lines) f []) there) alone keeps;
       lines-long = unfold appended in simp (length-set, length-withSlot) (now .lines-long);
       links-long = unfold appended in simp (length-withNext, length-withLink) (now .links-long);
@@ -93,16 +89,16 @@ module _ (dx h room : ℕ) (kept : Kept) (n : ℕ) (live live′ : Point → Typ
       links-past =
           unfold appended in
           past-withNext room (withLink (t .links) n s 0) (lastLink dx (t .lines) f) n
-          (omega (arith, last-below dx n h t d (now .chains) (now .loops) (now .held) (now .lines-long) (links-fit dx h room kept n live live′ d t now small) f hf))
+          (omega (arith, last-below (ready now small) f hf))
           ∙ past-withLink room (t .links) n s 0 small
           ∙ now .links-past;
     }
       where
         at-end : indexedPoint dx s ≡ indexedPoint dx (endPoint dx (t .lines) f)
-        at-end = ends-is dx (t .links) (slotAt dx (t .lines) f) (getD (now .chains) f []) (getD (d .lines) f []) (held-line dx h room kept n live live′ d t now small f hf) (indexedPoint dx s) there
+        at-end = ends-is dx (t .links) (slotAt dx (t .lines) f) (getD (now .chains) f []) (getD (d .lines) f []) (now .held .lines-held f hf) (indexedPoint dx s) there
 
         after : Held dx (suc n) (appended dx t n s f e (edgeWord dx (indexedPoint dx e))) (rules.append d f (indexedPoint dx e)) (set (now .chains) f (getD (now .chains) f [] ++ (n ∷ []))) (now .loops)
-        after = append-held dx n h t d (now .chains) (now .loops) (now .held) (now .lines-long) (links-fit dx h room kept n live live′ d t now small) f hf s e (edgeWord dx (indexedPoint dx e)) (word-in-frontier dx e) fits at-end
+        after = append-held (ready now small) f hf s e (edgeWord dx (indexedPoint dx e)) (word-in-frontier dx e) fits at-end
 
     -- ---- prepend
     pub prepend-carried : startsAt (indexedPoint dx e) (getD (d .lines) f []) ≡ true
@@ -116,7 +112,7 @@ module _ (dx h room : ℕ) (kept : Kept) (n : ℕ) (live live′ : Point → Typ
       filed =
           unfold rules.prepend prepended in
           filed-anew dx live live′ (t .lines) (d .lines) f (indexedPoint dx s ∷ getD (d .lines) f []) (indexedPoint dx s) n (lastLink dx (t .lines) f) (endPoint dx (t .lines) f) (wordOf (linkCount dx (t .lines) f + 1))
-          hf (frontier-fits dx h room kept n live live′ d t now small) (now .filed) (framed-by dx (suc n) (prepended dx t n s f (edgeWord dx (indexedPoint dx s))) (rules.prepend d f (indexedPoint dx s)) _ (now .loops) after)
+          hf (frontier-fits now) (now .filed) (framed-by dx (suc n) (prepended dx t n s f (edgeWord dx (indexedPoint dx s))) (rules.prepend d f (indexedPoint dx s)) _ (now .loops) after)
           (prepended-tips (indexedPoint dx s) (indexedPoint dx e) (getD (d .lines) f []) there) alone keeps;
       lines-long = unfold prepended in simp (length-set, length-withSlot) (now .lines-long);
       links-long = unfold prepended in simp length-withLink (now .links-long);
@@ -129,7 +125,7 @@ module _ (dx h room : ℕ) (kept : Kept) (n : ℕ) (live live′ : Point → Typ
     }
       where
         after : Held dx (suc n) (prepended dx t n s f (edgeWord dx (indexedPoint dx s))) (rules.prepend d f (indexedPoint dx s)) (set (now .chains) f (n ∷ getD (now .chains) f [])) (now .loops)
-        after = prepend-held dx n h t d (now .chains) (now .loops) (now .held) (now .lines-long) (links-fit dx h room kept n live live′ d t now small) f hf s (edgeWord dx (indexedPoint dx s)) (word-in-frontier dx s) fits
+        after = prepend-held (ready now small) f hf s (edgeWord dx (indexedPoint dx s)) (word-in-frontier dx s) fits
 
   -- ---- start
   start-tips : (a b p : Point) → Tip p (a ∷ b ∷ []) → (p ≡ a → ⊥) → p ≡ b
@@ -150,7 +146,7 @@ module _ (dx h room : ℕ) (kept : Kept) (n : ℕ) (live live′ : Point → Typ
     filed =
         unfold rules.start started in
         subst (λ (k : ℕ). Filed dx live′ (set (set (withSlot dx (t .lines) k n n e 1) (edgeWord dx (indexedPoint dx s)) k) (edgeWord dx (indexedPoint dx e)) k) (d .lines ++ ((indexedPoint dx s ∷ indexedPoint dx e ∷ []) ∷ []))) (sym (now .held .count-is))
-        (filed-new dx live live′ (t .lines) (d .lines) (indexedPoint dx s ∷ indexedPoint dx e ∷ []) (indexedPoint dx s) (indexedPoint dx e) n n e 1 (frontier-fits dx h room kept n live live′ d t now small) (now .filed)
+        (filed-new dx live live′ (t .lines) (d .lines) (indexedPoint dx s ∷ indexedPoint dx e ∷ []) (indexedPoint dx s) (indexedPoint dx e) n n e 1 (frontier-fits now) (now .filed)
         (unfold rules.start in framed-by dx (suc n) (started dx t n s e (edgeWord dx (indexedPoint dx s)) (edgeWord dx (indexedPoint dx e))) (rules.start d (indexedPoint dx s) (indexedPoint dx e)) _ (now .loops) after)
         (start-tips (indexedPoint dx s) (indexedPoint dx e)) alone keeps (word-in-frontier dx s, word-in-frontier dx e));
     lines-long = unfold started in simp (length-set, length-withSlot) (now .lines-long);
@@ -165,4 +161,4 @@ module _ (dx h room : ℕ) (kept : Kept) (n : ℕ) (live live′ : Point → Typ
   }
     where
       after : Held dx (suc n) (started dx t n s e (edgeWord dx (indexedPoint dx s)) (edgeWord dx (indexedPoint dx e))) (rules.start d (indexedPoint dx s) (indexedPoint dx e)) (now .chains ++ ((n ∷ []) ∷ [])) (now .loops)
-      after = start-held dx n h t d (now .chains) (now .loops) (now .held) (now .lines-long) (links-fit dx h room kept n live live′ d t now small) s e (edgeWord dx (indexedPoint dx s)) (edgeWord dx (indexedPoint dx e)) (word-in-frontier dx s) (word-in-frontier dx e) fits fits′
+      after = start-held (ready now small) s e (edgeWord dx (indexedPoint dx s)) (edgeWord dx (indexedPoint dx e)) (word-in-frontier dx s) (word-in-frontier dx e) fits fits′

@@ -8,54 +8,32 @@ use native.Mathlib.Nat.{pow-suc}
 use native.Mathlib.Omega.{arith}
 use lib.Dec.{ltb, eqb}
 use lib.ListN.{length, length-append}
-use borrow.Author.Tests.{ltb-true, ltb-false, leb-true, eqb-true, lt-ltb, le-ltb, le-leb, eq-eqb, ne-eqb}
-use Rattle.scope.specs.GeoJson.{decimalBy, decimal}
+use borrow.Author.Tests.{ltb-true, ltb-false, leb-true, eqb-true, lt-ltb, le-leb, eq-eqb, ne-eqb}
+use Rattle.scope.specs.GeoJson.{decimal}
 use Rattle.scope.specs.Program.{numberLimit}
+use Rattle.laws.proofs.Digits.{one-digit, last-digit}
 use Rattle.reading.specs.Parser.{found, none, isDigit, goesOn, rest, number}
 
 -- ---- decimals
 
--- more steps than digits change nothing
-enough : (d e n : ℕ) → n ≤ d → n ≤ e → decimalBy d (ltb n 10) n ≡ decimalBy e (ltb n 10) n
-unfolding decimalBy
-enough zero zero n h g = refl
-enough zero (suc e) n h g = rw (lt-ltb n 10 (omega arith)) refl
-enough (suc d) zero n h g = rw (lt-ltb n 10 (omega arith)) refl
-enough (suc d) (suc e) n h g = by (ltb n 10) refl (λ large. enough d e (n / 10) (omega arith) (omega arith))
-  where
-    by : (b : Bool) → ltb n 10 ≡ b → (10 ≤ n → decimalBy d (ltb (n / 10) 10) (n / 10) ≡ decimalBy e (ltb (n / 10) 10) (n / 10)) →
-        decimalBy (suc d) b n ≡ decimalBy (suc e) b n
-    by true t fewer = refl
-    by false t fewer = rw (fewer (ltb-false n 10 t))
-
-decimal-of-digit : (n : ℕ) → n < 10 → decimal n ≡ (48 + n) ∷ []
-unfolding decimal decimalBy
-decimal-of-digit zero h = refl
-decimal-of-digit (suc n) h = rw (lt-ltb (suc n) 10 h)
-
 -- a digit more
-decimal-of-more : (n : ℕ) → 10 ≤ n → decimal n ≡ decimal (n / 10) ++ ((48 + n % 10) ∷ [])
-unfolding decimal decimalBy
-decimal-of-more zero h = absurd (omega arith)
-decimal-of-more (suc n) h = rw (le-ltb (suc n) 10 h, enough n (suc n / 10) (suc n / 10) (omega arith) (omega arith))
-
 decimal-appended : (n d : ℕ) → 0 < n → d < 10 → decimal (10 * n + d) ≡ decimal n ++ ((48 + d) ∷ [])
 decimal-appended n d h g =
     let quotient : (10 * n + d) / 10 ≡ n = omega arith in
     let remainder : (10 * n + d) % 10 ≡ d = omega arith in
-    decimal-of-more (10 * n + d) (omega arith) ∙ rw (quotient, remainder)
+    last-digit (10 * n + d) (omega arith) ∙ rw (quotient, remainder)
 
 -- a number below a power of ten has no more digits than that
 pub decimal-length : (k n : ℕ) → n < 10 ^ suc k → length (decimal n) ≤ suc k
-decimal-length zero n h = let few : n < 10 = h in rw (decimal-of-digit n few) (omega arith)
+decimal-length zero n h = let few : n < 10 = h in rw (one-digit n few) (omega arith)
 decimal-length (suc k) n h = by (ltb n 10) refl (λ large. decimal-length k (n / 10) (omega (arith, pow-suc 10 (suc k))))
   where
     by : (b : Bool) → ltb n 10 ≡ b → (10 ≤ n → length (decimal (n / 10)) ≤ suc k) → length (decimal n) ≤ suc (suc k)
-    by true t fewer = rw (decimal-of-digit n (ltb-true n 10 t)) (omega arith)
+    by true t fewer = rw (one-digit n (ltb-true n 10 t)) (omega arith)
     by false t fewer =
         let large = ltb-false n 10 t in
         let shorter = fewer large in
-        rw (decimal-of-more n large, length-append) (omega arith)
+        rw (last-digit n large, length-append) (omega arith)
 
 -- ---- the parser
 
@@ -140,7 +118,7 @@ number-sound end (b ∷ bytes) n left e = by (isDigit b) refl e
     by true t f =
         let bounds = digit-bounds b t in
         let byte : 48 + (b - 48) ≡ b = omega arith in
-        rw (decimal-of-digit (b - 48) (omega arith), byte) at (rest-sound end (b - 48) bytes n left (digit-within (b - 48) (omega arith)) f)
+        rw (one-digit (b - 48) (omega arith), byte) at (rest-sound end (b - 48) bytes n left (digit-within (b - 48) (omega arith)) f)
     by false t f = absurd (nothing-found f)
 
 -- what the parser reads back, up to an end that is no digit
@@ -158,7 +136,7 @@ module _ (end : ℕ) (plain : isDigit end ≡ false) where
   unfolding number
   digit-read n bytes h =
       let value : 48 + n - 48 ≡ n = omega arith in
-      rw (decimal-of-digit n h, digit-is (48 + n) (omega arith) (omega arith), value)
+      rw (one-digit n h, digit-is (48 + n) (omega arith) (omega arith), value)
 
   decimal-read : (k n : ℕ) (bytes : List ℕ) → n ≤ k → n ≤ numberLimit → number end (decimal n ++ bytes) ≡ rest end n bytes
   decimal-read zero n bytes h within = digit-read n bytes (omega arith)
@@ -172,7 +150,7 @@ module _ (end : ℕ) (plain : isDigit end ≡ false) where
       by false t shorter =
           let large = ltb-false n 10 t in
           let whole : 10 * (n / 10) + n % 10 ≡ n = omega arith in
-          rw (decimal-of-more n large, append-assoc) (shorter large ∙ further (n / 10) (n % 10) bytes (omega arith) (omega arith) (omega arith) ∙ rw whole)
+          rw (last-digit n large, append-assoc) (shorter large ∙ further (n / 10) (n % 10) bytes (omega arith) (omega arith) (omega arith) ∙ rw whole)
 
   pub number-complete : (n : ℕ) (left : List ℕ) → n ≤ numberLimit → number end (decimal n ++ (end ∷ left)) ≡ found n left
   unfolding rest

@@ -1,15 +1,11 @@
 -- A test of the numbers below n: one that some number passes, and one that none passes. Assumes nothing.
 use mathlib.Core.Path.{_≡_, refl, sym, _∙_}
-use mathlib.Core.Bool.{Bool, true, false, true≢false, _||_}
+use mathlib.Core.Bool.{Bool, true, false}
 use Prim.Native.Nat.{ℕ, zero, suc, _+_, _<_}
 use native.Mathlib.Numerals.{add-one}
 use borrow.Author.Count.{below-none, below-more}
 use Rattle.scope.specs.GeoJson.{anyBelow}
-
--- a test of two that fails, fails at both
-pub neither : (a b : Bool) → a || b ≡ false → (a ≡ false) × (b ≡ false)
-neither true b e = absurd (true≢false e)
-neither false b e = (refl, e)
+use Rattle.laws.proofs.Tests.{neither}
 
 -- a test that no number below n passes, fails at each of them
 pub none-below : (test : ℕ → Bool) (n : ℕ) → anyBelow test n ≡ false → (k : ℕ) → k < n → test k ≡ false

@@ -11,9 +11,10 @@ use Rattle.scope.specs.Limits.{coordinateLimit, recordStride, pointLimit, noOwn
 use Rattle.scope.specs.Area.{anyAbove}
 use Rattle.scope.specs.Room.{directoryWords}
 use Rattle.scope.specs.GeoJson.{firstAt, countAt, classAt, ownerAt, wordsIn, ringWordsAt, ringAt, directoryShort, rangeOutside, countOut, coordinateOver, classOut, isPolygon, isHole, ownedByAnother, ownedByNone, recordRefused, ringSetRefused}
+use Rattle.laws.proofs.Tests.{neither}
 use Rattle.ringset.specs.declared.Record.{Record}
 use Rattle.ringset.specs.OneRecord.{recordAt, shapeRefused}
-use Rattle.ringset.proofs.Below.{neither, none-below}
+use Rattle.ringset.proofs.Below.{none-below}
 
 -- a record whose ring is not refused: its range lies within the points, it has 4 points or more and not too many, no coordinate is above the limit, and it is
 -- a polygon or a hole

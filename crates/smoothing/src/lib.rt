@@ -2,7 +2,9 @@
 use cells::Level;
 use cells::Point;
 ghost use mathlib.Core.Path.{_≡_};
-ghost use Rattle.scope.specs.Smoothing.{moved, sampleAt, moves, realOf, smoothed, placing, placedAt, lineVertex};
+ghost use mathlib.Core.Bool.{cond};
+ghost use Prim.Native.Nat.{_-_};
+ghost use Rattle.scope.specs.Smoothing.{moved, sampleAt, moves, realOf, placing, placedAt, lineVertex};
 ghost use Rattle.smoothing.specs.Values.{placingOf, vertexOf};
 
 // Where a line is to stand: the place of the point (0, 0), and how far apart neighbouring columns and rows are.
@@ -52,34 +54,32 @@ fn moves(side: u32, doubled: u32) -> bool
     doubled % 2 == 0 && 0 < doubled && (doubled as u64) < 2 * (side as u64)
 }
 
-// The x of a smoothed vertex.
-fn smoothed_x(values: &[f64], level: Level, dx: u32, dy: u32, point: Point) -> f64
-    ensures { λ r. ⌜ r ≡ smoothed (now (values .entry)) (level .threshold) dx dy (record { x = point .x; y = point .y }) .x ⌝ }
+// The column or row before one, or the first.
+fn previous(n: u32) -> u32
+    ensures { λ r. ⌜ r ≡ n - 1 ⌝ }
 {
-    let x = real_of(point.x);
-    if moves(dx, point.x) {
-        let xt = point.x / 2;
-        let yt = point.y / 2;
-        let v1 = sample_at(values, dx, xt, yt);
-        let v0 = sample_at(values, dx, xt - 1, yt);
+    if 0 < n { n - 1 } else { 0 }
+}
+
+// A coordinate of a smoothed vertex: where it moves it lies between the sample at `from` and the one at `to`.
+fn smoothed(
+    values: &[f64],
+    level: Level,
+    dx: u32,
+    side: u32,
+    doubled: u32,
+    from: Point,
+    to: Point,
+) -> f64
+    ensures { λ r. ⌜ r ≡ cond (moves side doubled) (moved (level .threshold) (sampleAt (now (values .entry)) dx (from .x) (from .y)) (sampleAt (now (values .entry)) dx (to .x) (to .y)) (realOf doubled)) (realOf doubled) ⌝ }
+{
+    let x = real_of(doubled);
+    if moves(side, doubled) {
+        let v0 = sample_at(values, dx, from.x, from.y);
+        let v1 = sample_at(values, dx, to.x, to.y);
         return moved(level.threshold, v0, v1, x);
     }
     x
-}
-
-// The y of a smoothed vertex.
-fn smoothed_y(values: &[f64], level: Level, dx: u32, dy: u32, point: Point) -> f64
-    ensures { λ r. ⌜ r ≡ smoothed (now (values .entry)) (level .threshold) dx dy (record { x = point .x; y = point .y }) .y ⌝ }
-{
-    let y = real_of(point.y);
-    if moves(dy, point.y) {
-        let xt = point.x / 2;
-        let yt = point.y / 2;
-        let v1 = sample_at(values, dx, xt, yt);
-        let v0 = sample_at(values, dx, xt, yt - 1);
-        return moved(level.threshold, v0, v1, y);
-    }
-    y
 }
 
 // Whether a placement moves anything: its origin differs from (0, 0) or its step from (1, 1).
@@ -119,11 +119,23 @@ pub fn line_vertex(
     ensures { λ r. ⌜ vertexOf r ≡ lineVertex smooth (now (values .entry)) (level .threshold) dx dy (placingOf placement) (record { x = point .x; y = point .y }) ⌝ }
 {
     if smooth {
+        let at = Point {
+            x: point.x / 2,
+            y: point.y / 2,
+        };
+        let in_row = Point {
+            x: previous(at.x),
+            y: at.y,
+        };
+        let in_column = Point {
+            x: at.x,
+            y: previous(at.y),
+        };
         placed_at(
             placement,
             Vertex {
-                x: smoothed_x(values, level, dx, dy, point),
-                y: smoothed_y(values, level, dx, dy, point),
+                x: smoothed(values, level, dx, dx, point.x, in_row, at),
+                y: smoothed(values, level, dx, dy, point.y, in_column, at),
             },
         )
     } else {

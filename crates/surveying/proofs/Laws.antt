@@ -15,7 +15,7 @@ use Rattle.scope.specs.GeoJson.{classAt, recordRefused, anyBelow, directoryShor
 use Rattle.laws.proofs.Sums.{sum-last}
 use Rattle.ringset.specs.declared.Record.{Record}
 use Rattle.ringset.specs.OneRecord.{recordAt, ownerRefused}
-use Rattle.ringset.proofs.Below.{neither}
+use Rattle.laws.proofs.Tests.{neither}
 use Rattle.ringset.proofs.OneRecord.{refused-by-parts}
 use Rattle.ringset.proofs.Laws.{sound}
 use Rattle.ringrecord.specs.declared.Fate.{Fate}

@@ -9,7 +9,7 @@ use borrow.Author.Tests.{lt-ltb, le-ltb, ltb-true}
 use Rattle.scope.specs.Contour.{classWord}
 use Rattle.ringset.specs.declared.Record.{Record}
 use Rattle.ringset.specs.OneRecord.{shapeRefused, ownerRefused}
-use Rattle.ringset.proofs.Below.{neither}
+use Rattle.laws.proofs.Tests.{neither}
 use Rattle.ringrecord.specs.declared.Fate.{Fate}
 use Rattle.ringrecord.specs.declared.Fate.the-variants.{Polygon, Hole, Dropped, Line}
 use Rattle.ringrecord.specs.declared.RingRecord.{RingRecord}

@@ -13,6 +13,7 @@ use lib.Count.{trailingZeros, under, ones, ones-step}
 use lib.Dec.{eqb}
 use Rattle.scope.specs.Terrain.{Sheet}
 use Rattle.scope.specs.Cells.{when, numberOf, cellNumber, caseTable, drawn}
+use Rattle.laws.proofs.Tests.{neither}
 use Rattle.words.specs.Bits.{packed, bitAt, movedIn}
 use Rattle.words.specs.Panes.{apart, active, lowerApart, upperApart, saddle, opening, closing, Shows, paneOf, changesIn, numberIn, lowerIn, upperIn, saddlesIn, openingIn, closingIn}
 use Rattle.words.specs.declared.Pane.{Pane}
@@ -280,10 +281,6 @@ none-found f (suc n) e zero h = by (f 0) (sym (first-bit f n) ∙ rw e refl)
 none-found f (suc n) e (suc j) h = none-found (λ j. f (suc j)) n (sym (other-bits f n) ∙ rw e refl) j (omega arith)
 
 -- ---- cells that are not active
-
-pub neither : (a b : Bool) → a || b ≡ false → (a ≡ false) × (b ≡ false)
-neither true b h = absurd (true≢false h)
-neither false b h = (refl, h)
 
 together : (a b : Bool) → apart a b ≡ false → a ≡ b
 together true true h = refl

@@ -8,7 +8,7 @@ use borrow.Author.Needs.{needs}
 use borrow.Author.Tests.{eq-eqb, ne-eqb, lt-ltb, le-ltb}
 use Rattle.scope.specs.Area.{faultyWords, anyAbove}
 use Rattle.scope.specs.Limits.{coordinateLimit, pointLimit}
-use Rattle.area.proofs.Words.{above-next}
+use Rattle.laws.proofs.Words.{above-next}
 use Rattle.area.proofs.faulty.Statement.{statement}
 use Rattle.area.proofs.faulty.Tie as tie
 

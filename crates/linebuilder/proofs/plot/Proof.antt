@@ -1,38 +1,23 @@
--- `linebuilder::plot` meets its contract: each test is one of the verdict's, and past both the walk stores what the verdict lets it. Assumes nothing.
-use native.Mathlib.Omega.{arith}
+-- `linebuilder::plot` meets its contract: the answer says whether the outputs are spared or the walk along the links stores them. Assumes nothing.
 use Rattle.scope.specs.Limits.{recordStride}
-use Rattle.scope.specs.Room.{pointWords, pointCount, directoryWords}
-use Rattle.isoringbuilder.proofs.Packing.{points-short, directory-short, both-fit}
+use Rattle.isoringbuilder.proofs.Packing.{spared, stored}
 use Rattle.linebuilder.proofs.Laws.{as-plotted}
 use borrow.Author.Needs.{needs}
 use Rattle.linebuilder.proofs.plot.Statement.{statement}
 use Rattle.linebuilder.proofs.plot.Tie as tie
 
-cast-if1 : tie.Need-cast-if1
-cast-if1 c = search needs
+answer-for-requires : tie.Need-answer-for-requires
+answer-for-requires c κs = search needs
 
-cast-if1-2 : tie.Need-cast-if1-2
-cast-if1-2 c = search needs
+enum-told : tie.Need-enum-told
+enum-told c = search needs
 
-add-if1 : tie.Need-add-if1
-add-if1 c = search needs
-
-mul-if1 : tie.Need-mul-if1
-mul-if1 c = search needs
+enum-told-2 : tie.Need-enum-told-2
+enum-told-2 c = search needs
 
 returns : tie.Need-returns
-unfolding pointWords pointCount
-returns c = as-plotted (points-short _ _ _ _ _ (omega arith))
-
-cast-if2 : tie.Need-cast-if2
-cast-if2 c = search needs
-
-mul-if2 : tie.Need-mul-if2
-mul-if2 c = search needs
-
-returns-2 : tie.Need-returns-2
-unfolding pointWords pointCount directoryWords recordStride
-returns-2 c = as-plotted (directory-short _ _ _ _ _ (omega arith) (omega arith))
+unfolding recordStride
+returns c = as-plotted (spared _ _ _ _ _ _ (c .before .before .answer-for .ensures) _ (c .enum-told2 .given .1))
 
 write-lines-requires : tie.Need-write-lines-requires
 write-lines-requires c κs = search needs
@@ -43,25 +28,23 @@ same-length c = search needs
 same-length-2 : tie.Need-same-length-2
 same-length-2 c = search needs
 
-returns-3 : tie.Need-returns-3
-unfolding pointWords pointCount directoryWords recordStride
-returns-3 c =
-    let stored = c .before .before .before .before .write-lines .ensures in
-    rw (stored .0, stored .1) (as-plotted (both-fit _ _ _ _ _ (omega arith) (omega arith)))
+returns-2 : tie.Need-returns-2
+unfolding recordStride
+returns-2 c =
+    let at-write = c .before .before .before .before in
+    let at-rings = at-write .before .before .before in
+    let walked = at-write .write-lines .ensures in
+    rw (walked .0, walked .1) (as-plotted (stored _ _ _ _ _ _ (at-rings .before .before .answer-for .ensures) _ (at-rings .enum-told .given .1)))
 
 pub plot-spec : {M : Type 1} → statement M
 plot-spec =
     tie.close
     (tie.spec
-    cast-if1
-    cast-if1-2
-    add-if1
-    mul-if1
+    answer-for-requires
+    enum-told
+    enum-told-2
     returns
-    cast-if2
-    mul-if2
-    returns-2
     write-lines-requires
     same-length
     same-length-2
-    returns-3)
+    returns-2)

@@ -7,7 +7,7 @@ use native.Mathlib.Omega.{arith}
 use lib.ListN.{length, drop, drop-of-length-le}
 use Rattle.scope.specs.Area.{anyAbove}
 use Rattle.scope.specs.Limits.{coordinateLimit}
-use Rattle.ringset.proofs.Words.{above-next}
+use Rattle.laws.proofs.Words.{above-next}
 use Rattle.ringset.proofs.coordinate_over.Statement.{statement}
 use Rattle.ringset.proofs.coordinate_over.Tie as tie
 

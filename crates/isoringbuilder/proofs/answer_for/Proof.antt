@@ -1,14 +1,14 @@
--- `laying::answer_for` meets its contract: each test is one of the verdict's. Assumes nothing.
+-- `isoringbuilder::answer_for` meets its contract: each test is one of the verdict's. Assumes nothing.
 use borrow.Author.Needs.{needs}
 use borrow.Author.Tests.{lt-ltb, le-ltb}
-use Prim.Native.Nat.{_*_}
+use Prim.Native.Nat.{_+_, _*_}
 use native.Mathlib.Omega.{arith}
 use Rattle.scope.specs.Limits.{recordStride}
 use Rattle.scope.specs.Room.{pointWords, pointCount, directoryWords}
 use Rattle.isoringbuilder.specs.Verdict.{roomVerdict}
 use Rattle.isoringbuilder.specs.Pass.{packed}
-use Rattle.laying.proofs.answer_for.Statement.{statement}
-use Rattle.laying.proofs.answer_for.Tie as tie
+use Rattle.isoringbuilder.proofs.answer_for.Statement.{statement}
+use Rattle.isoringbuilder.proofs.answer_for.Tie as tie
 
 add-if1 : tie.Need-add-if1
 add-if1 c = search needs
@@ -18,7 +18,9 @@ mul-if1 c = search needs
 
 returns : tie.Need-returns
 unfolding packed roomVerdict pointWords pointCount directoryWords recordStride
-returns c = rw (lt-ltb _ _ (c .if1 .taken))
+returns c =
+    let start = c .before in
+    rw (lt-ltb (start .args .points) (2 * (start .args .segments + start .args .rings)) (omega arith))
 
 returns-2 : tie.Need-returns-2
 unfolding packed roomVerdict pointWords pointCount directoryWords recordStride
