@@ -43,11 +43,11 @@ use Rattle.contourbuilder.proofs.Owning.{ownable-rings}
 use Rattle.contourbuilder.proofs.Contoured.{cleared-same}
 use Rattle.contourbuilder.proofs.Banded.{isobands-refused, band-ownable, isobands-done}
 use Rattle.sources.specs.Source.{sourceWords}
-use Rattle.sources.specs.Laid.{ringsIn, LaidOver}
+use Rattle.sources.specs.Laid.{ringsIn, LaidOver, laidByWords}
 use Rattle.sources.proofs.Laws.{by-words}
 use Rattle.inplace.proofs.Counts.{Looped, looped}
 use Rattle.bandlaying.specs.Packing.{PackedFor}
-use Rattle.bandlaying.specs.Owning.{laidByWords, OwnableWithin, Ownable, OwnersFound}
+use Rattle.bandlaying.specs.Owning.{OwnableWithin, Ownable, OwnersFound}
 use Rattle.bandlaying.proofs.Counted.{rings-counted, rings-ownable}
 
 -- what holds of the rings of either set holds of those of both

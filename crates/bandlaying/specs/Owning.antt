@@ -1,26 +1,15 @@
 -- The step over points already written: a band's rings are counted, and their records found, in the first words of the link table. What it asks where rings were
 -- written, and what it leaves. Assumes nothing.
 use mathlib.Core.Path.{_≡_}
-use mathlib.Core.Bool.{true}
 use mathlib.Core.List.{List}
 use Prim.Native.Nat.{ℕ, _*_, _≤_}
 use lib.ListN.{length, take, drop}
 use Rattle.isoringbuilder.specs.declared.Built.{Built}
 use Rattle.isoringbuilder.specs.declared.Built.the-variants as built-is
 use Rattle.regions.specs.Regions.{countedRings, sortedRecords}
-use Rattle.sources.specs.declared.Laid.{Laid}
 use Rattle.sources.specs.Laid.{ringsIn}
 use Rattle.inplace.specs.Counted.{countsStored}
 use Rattle.bandplace.specs.Within.{Placeable}
-
--- a build with this answer, whose records are the words of a directory in the table's first words
-unfoldable pub laidByWords : Built → ℕ → ℕ → Laid
-laidByWords answer rings words = record {
-  answer = answer;
-  source = record { «by_words» = true; link = 0; left = 0; first = 0 };
-  rings = rings;
-  words = words;
-}
 
 -- the first n records of a table, once the counts of n packed rings stand in them
 abbrev pub countedRecords : List ℕ → List ℕ → ℕ → List ℕ

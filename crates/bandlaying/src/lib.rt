@@ -19,7 +19,7 @@ use packing::clear;
 use packing::write_rings;
 use scan::TILES;
 use sources::Laid;
-use sources::Source;
+use sources::laid_by_words;
 use stitching::stitch;
 ghost use mathlib.Core.Path.{_≡_};
 ghost use Prim.Native.Nat.{suc, _+_, _^_, _<_};
@@ -30,7 +30,7 @@ ghost use Rattle.scan.specs.Rows.{Marked};
 ghost use Rattle.bands.specs.Bands.{BuiltOver, BandBuilt};
 ghost use Rattle.sources.specs.Laid.{LaidOver};
 ghost use Rattle.bandlaying.specs.Packing.{PackedFor};
-ghost use Rattle.bandlaying.specs.Owning.{RingsOwnable, RingsOwned, Ownable, OwnersFound, laidByWords};
+ghost use Rattle.bandlaying.specs.Owning.{RingsOwnable, RingsOwned, Ownable, OwnersFound};
 
 // The points of both sets, where they and so many records fit; all is spared where one does not. The upper set, which was stitched last, goes behind the room of
 // the lower; then the lower set is stitched again and goes in front.
@@ -104,23 +104,6 @@ fn own_written(answer: Built, words: usize, points: &[u16], links: &mut [u32]) -
             own_packed(points, &mut links[..words], n);
             n
         }
-    }
-}
-
-// A build with this answer whose records, where it has any, are the words of a directory that begins the link table.
-fn laid_by_words(answer: Built, rings: usize, words: usize) -> Laid
-    ensures { λ r. ⌜ r ≡ laidByWords answer rings words ⌝ }
-{
-    Laid {
-        answer,
-        source: Source {
-            by_words: true,
-            link: 0,
-            left: 0,
-            first: 0,
-        },
-        rings,
-        words,
     }
 }
 

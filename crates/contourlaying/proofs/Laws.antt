@@ -34,12 +34,12 @@ use Rattle.contourbuilder.proofs.Contoured.{cleared-same, contours-refused}
 use Rattle.contourbuilder.proofs.Sizes.{laws, points-are, fours, rings-drawn}
 use Rattle.sources.specs.declared.Laid.{Laid}
 use Rattle.sources.specs.Source.{sourceWords}
-use Rattle.sources.specs.Laid.{ringsIn, LaidOver}
+use Rattle.sources.specs.Laid.{ringsIn, LaidOver, laidByWords}
 use Rattle.sources.proofs.Laws.{by-words}
 use Rattle.laying.specs.Bare.{bareLaid, LaidAlong}
 use Rattle.laying.proofs.Laws.{rings-laid}
 use Rattle.inplace.proofs.Counts.{Looped, looped}
-use Rattle.contourlaying.specs.Owning.{laidByWords, Ownable, RecordsStand, OwnersFound}
+use Rattle.contourlaying.specs.Owning.{Ownable, RecordsStand, OwnersFound}
 use Rattle.contourlaying.proofs.Counted.{rings-counted, rings-ownable}
 
 module _ (values : List Float) (threshold : Float) (dx dy : ℕ) (lines links : List ℕ) where

@@ -10,11 +10,11 @@ use isoringbuilder::run_pass;
 use laying::pack_along;
 use packing::clear;
 use sources::Laid;
-use sources::Source;
+use sources::laid_by_words;
 ghost use mathlib.Core.Path.{_≡_};
 ghost use Rattle.sources.specs.Laid.{LaidOver};
 ghost use Rattle.contourbuilder.specs.Contours.{ContoursBuilt};
-ghost use Rattle.contourlaying.specs.Owning.{RingsOwnable, RingsOwned, Ownable, OwnersFound, laidByWords};
+ghost use Rattle.contourlaying.specs.Owning.{RingsOwnable, RingsOwned, Ownable, OwnersFound};
 
 // The records of `n` packed rings in the first 4n words of the table. The words behind them hold anything afterwards.
 fn own_packed(points: &[u16], table: &mut [u32], n: usize)
@@ -32,23 +32,6 @@ fn own_written(answer: Built, words: usize, points: &[u16], links: &mut [u32])
 {
     if let Built::Rings(rings) = answer {
         own_packed(points, &mut links[..words], rings as usize);
-    }
-}
-
-// A build with this answer whose records, where it has any, are the words of a directory that begins the link table.
-fn laid_by_words(answer: Built, rings: usize, words: usize) -> Laid
-    ensures { λ r. ⌜ r ≡ laidByWords answer rings words ⌝ }
-{
-    Laid {
-        answer,
-        source: Source {
-            by_words: true,
-            link: 0,
-            left: 0,
-            first: 0,
-        },
-        rings,
-        words,
     }
 }
 

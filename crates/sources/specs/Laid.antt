@@ -1,5 +1,6 @@
 -- A build whose records still stand in the link table: what it has to be so that handing them out gives what the word form gives. Assumes nothing.
 use mathlib.Core.Path.{_≡_}
+use mathlib.Core.Bool.{true}
 use mathlib.Core.List.{List}
 use Prim.Native.Nat.{ℕ, _≤_}
 use lib.ListN.{length}
@@ -15,6 +16,15 @@ use Rattle.sources.specs.Source.{sourceWords}
 unfoldable pub ringsIn : Built → ℕ
 ringsIn (built-is.Refused why) = 0
 ringsIn (built-is.Rings n) = n
+
+-- a build with this answer whose records, where it has any, are the words of a directory that begins the link table
+unfoldable pub laidByWords : Built → ℕ → ℕ → Laid
+laidByWords answer rings words = record {
+  answer = answer;
+  source = record { «by_words» = true; link = 0; left = 0; first = 0 };
+  rings = rings;
+  words = words;
+}
 
 -- for every word directory of that many records, the word form has these results: its answer, the link table with the words that were worked in cleared, and
 -- the directory with the words of the records written. `Words` says so of a directory at entry, the answer, the link table at exit, and the directory at exit

@@ -8,6 +8,7 @@ use ringrecord::record_from;
 ghost use mathlib.Core.Path.{_≡_};
 ghost use Rattle.scope.specs.GeoJson.{firstAt, countAt, classAt, ownerAt};
 ghost use Rattle.ringrecord.specs.Records.{recordFrom};
+ghost use Rattle.sources.specs.Laid.{laidByWords};
 ghost use Rattle.sources.specs.Source.{ringEnd, EndIs, NextIs};
 
 // The words of a directory record: first point, point count, class, owner.
@@ -113,5 +114,22 @@ pub fn next_record(table: &[u32], source: Source, k: usize) -> Next
             left: end.left,
             first: after,
         },
+    }
+}
+
+// A build with this answer whose records, where it has any, are the words of a directory that begins the link table.
+pub fn laid_by_words(answer: Built, rings: usize, words: usize) -> Laid
+    ensures { λ r. ⌜ r ≡ laidByWords answer rings words ⌝ }
+{
+    Laid {
+        answer,
+        source: Source {
+            by_words: true,
+            link: 0,
+            left: 0,
+            first: 0,
+        },
+        rings,
+        words,
     }
 }
