@@ -44,6 +44,9 @@ const SIGN: u64 = 9223372036854775808;
 
 const INFINITE: u64 = 9218868437227405312;
 
+// The pattern that stands for every NaN's.
+const NAN: u64 = 9221120237041090560;
+
 // A call's code is 0, the number of its refusal, or this one where it passed with other counts than expected.
 const MISCOUNTED: u32 = 99;
 
@@ -82,7 +85,8 @@ fn word_or(table: &[u32], i: usize, otherwise: u32) -> u32 {
     if i < table.len() { table[i] } else { otherwise }
 }
 
-fn coordinate(points: &[u16], i: usize) -> u32 {
+// A coordinate of the points.
+pub fn coordinate(points: &[u16], i: usize) -> u32 {
     if i < points.len() {
         widened(points[i])
     } else {
@@ -94,7 +98,8 @@ fn widened(x: u16) -> u32 {
     x as u32
 }
 
-fn float(values: &[f64], i: usize) -> f64 {
+// A float of a table.
+pub fn float(values: &[f64], i: usize) -> f64 {
     if i < values.len() { values[i] } else { 0.0 }
 }
 
@@ -149,13 +154,14 @@ fn float_of(pattern: u64) -> f64 {
     }
 }
 
+// The pattern of a float. All NaNs have one.
+pub fn pattern_of(x: f64) -> u64 {
+    if x == x { f64::to_bits(x) } else { NAN }
+}
+
 // Whether a float has this pattern. A NaN has every pattern of NaN.
 fn has_pattern(x: f64, pattern: u64) -> bool {
-    if x == x {
-        f64::to_bits(x) == pattern
-    } else {
-        INFINITE < pattern % SIGN
-    }
+    pattern_of(x) == pattern_of(float_of(pattern))
 }
 
 // A table from word n on.
@@ -393,6 +399,35 @@ pub fn counts_of(set: &[u32]) -> Counts {
 // The numbers after the records of a set.
 pub fn after_records(set: &[u32]) -> &[u32] {
     after(set, 4 + 4 * (word(set, 2) as usize))
+}
+
+// The case of a grid and of the set whose numbers these are.
+pub fn case_at(grid: &[u32], set: &[u32]) -> Case {
+    case_of(word(grid, 0), word(grid, 1), counts_of(set))
+}
+
+// Stores this many samples.
+pub fn fill(numbers: &[u32], count: usize, values: &mut [f64; VALUES]) {
+    for i in 0..count {
+        put_sample(values, i, word(numbers, i));
+    }
+}
+
+// A number that is a threshold.
+pub fn threshold(numbers: &[u32], i: usize) -> f64 {
+    word(numbers, i) as f64
+}
+
+// The numbers after the samples of a grid of contours and bands.
+pub fn after_samples(grid: &[u32]) -> &[u32] {
+    let case = case_at(grid, grid);
+    after(after(grid, 2), case.samples)
+}
+
+// The numbers after a grid of contours and bands.
+pub fn after_regions(grid: &[u32]) -> &[u32] {
+    let band = after_records(after(after_samples(grid), 2));
+    after(after_records(band), 2 * (word(band, 3) as usize))
 }
 
 // The counts of the longest grid of one row or one column, all above.

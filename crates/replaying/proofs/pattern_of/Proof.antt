@@ -1,11 +1,11 @@
--- `replaying::has_pattern` is safe: a float that equals itself is no NaN. Assumes nothing.
+-- `replaying::pattern_of` is safe: a float that equals itself is no NaN. Assumes nothing.
 use mathlib.Core.Bool.{true, not}
 use mathlib.Core.Path.{_≡_, sym, subst}
 use lib.Dec.{T}
 use lib.Ieee.{Float, nan, inf, fin, eq, isNan}
 use borrow.Author.Needs.{needs}
-use Rattle.replaying.proofs.has_pattern.Statement.{statement}
-use Rattle.replaying.proofs.has_pattern.Tie as tie
+use Rattle.replaying.proofs.pattern_of.Statement.{statement}
+use Rattle.replaying.proofs.pattern_of.Tie as tie
 
 equal-to-itself : (x : Float) → eq x x ≡ true → T (not (isNan x))
 unfolding eq isNan
@@ -16,5 +16,5 @@ equal-to-itself (fin s m e′) e = tt
 float-to-bits-result : tie.Need-float-to-bits-result
 float-to-bits-result c = equal-to-itself (c .before .args .x) (c .if1 .taken)
 
-pub has-pattern-spec : {M : Type 1} → statement M
-has-pattern-spec = tie.close (tie.spec float-to-bits-result (λ c. search needs) (λ c. search needs))
+pub pattern-of-spec : {M : Type 1} → statement M
+pattern-of-spec = tie.close (tie.spec float-to-bits-result (λ c. search needs) (λ c. search needs))
