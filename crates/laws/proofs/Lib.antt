@@ -17,6 +17,7 @@ pub mod Tips
 pub mod Rules
 pub mod Peak
 pub mod Laws
+pub mod Shared
 pub mod Tests
 pub mod Words
 pub mod Digits

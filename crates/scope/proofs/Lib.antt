@@ -1,4 +1,6 @@
--- What the definitions come to: the saddles are not joined through the middle, the row of a ring's first vertex answers 0, and the example's text.
+-- What the definitions come to: the saddles are not joined through the middle, the row of a ring's first vertex answers 0, the example's text, and the pairs
+-- after each cell of a small grid.
 pub mod Saddles
 pub mod Rows
 pub mod Example
+pub mod Counted
