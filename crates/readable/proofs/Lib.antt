@@ -7,3 +7,4 @@ pub mod Records
 pub mod Passing
 pub mod Laws
 pub mod Text
+pub mod Pieces
