@@ -7,6 +7,7 @@ use isoringbuilder::Built;
 use isoringbuilder::SecondReport;
 use isoringbuilder::link_words;
 use isoringbuilder::open_words;
+use isoringbuilder::point_words;
 use packing::RECORD_STRIDE;
 use packing::clear;
 use packing::write_rings;
@@ -20,6 +21,7 @@ ghost use Prim.Native.Nat.{suc, max, _+_, _^_, _≤_, _<_};
 ghost use lib.Dec.{ltb};
 ghost use lib.ListN.{length};
 ghost use Rattle.scope.specs.Terrain.{atLeast, terrain};
+ghost use Rattle.scope.specs.Room.{bandPointWords};
 ghost use Rattle.machine.specs.Walk.{walkPoints, walkRecords};
 ghost use Rattle.grid.specs.Grid.{gridFit, Sized};
 ghost use Rattle.scan.specs.Rows.{Marked};
@@ -235,6 +237,14 @@ pub fn band_second_report(
     }
 }
 
+// The words that the points of both sets need: the sum of the two.
+pub fn band_point_words(drawing: BandDrawing) -> usize
+    ensures { λ r. ⌜ r ≡ bandPointWords (drawing .«lower_segments») (drawing .«lower_rings») (drawing .«upper_segments») (drawing .«upper_rings») ⌝ }
+{
+    point_words(drawing.lower_segments, drawing.lower_rings)
+        + point_words(drawing.upper_segments, drawing.upper_rings)
+}
+
 // The points and the bare records of the rings in the links, stored from a word of each output on.
 pub fn write_behind(
     links: &[u32],
@@ -284,8 +294,8 @@ pub fn band_pack(
     let upper_segments = drawing.upper_segments;
     let upper_rings = drawing.upper_rings;
     let head = drawing.head;
-    let words = 2 * (lower_segments as usize + lower_rings as usize);
-    if points.len() < words + 2 * (upper_segments as usize + upper_rings as usize) {
+    let words = point_words(lower_segments, lower_rings);
+    if points.len() < band_point_words(drawing) {
         return Built::Refused(Refusal::PointsShort);
     }
     let rings = lower_rings + upper_rings;

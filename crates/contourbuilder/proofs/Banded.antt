@@ -47,7 +47,7 @@ use Rattle.contourbuilder.specs.Owning.{recordsOf, Ownable, ownedDirecto
 use Rattle.contourbuilder.proofs.Lengths.{packed-both, band-length}
 use Rattle.contourbuilder.proofs.Laid.{Drawn, Laid, rings-are, workable}
 use Rattle.contourbuilder.proofs.Sizes.{bare-count, fours, rings-drawn, points-are}
-use Rattle.contourbuilder.proofs.Contoured.{written-over, cleared-same}
+use Rattle.contourbuilder.proofs.Contoured.{written-over, written-front, cleared-same}
 
 -- ---- two runs of words
 
@@ -131,7 +131,8 @@ module _ (values : List Float) (lower upper : Float) (dx dy : ℕ) (lines links 
 
   module _ (sized : Sized (length values) dx dy) {drawing : BandDrawing} {lines₁ links₁ : List ℕ} (done : BandDone values lower upper dx dy lines links drawing lines₁ links₁)
       (points directory : List ℕ) (answer : Built) (lines₂ links₂ points′ directory₁ : List ℕ)
-      (packs : BandPacked (terrain (atLeast lower) values dx dy) dx dy drawing lines₁ links₁ points directory answer lines₂ links₂ points′ directory₁) where
+      (packs : BandPacked (terrain (atLeast lower) values dx dy) dx dy drawing lines₁ links₁ points directory answer lines₂ links₂ points′ directory₁)
+      (filled : ℕ) (filled-need : filled ≡ bandPointWords (drawing .«lower_segments») (drawing .«lower_rings») (drawing .«upper_segments») (drawing .«upper_rings»)) where
     abbrev outputs : Verdict
     outputs = bandOutputs L U dx dy (length points) (length directory)
 
@@ -201,6 +202,16 @@ module _ (values : List Float) (lower upper : Float) (dx dy : ℕ) (lines links 
     unfolding directoryWords recordStride
     upper-length = records-fill-their-room U (outside values upper dx dy sized)
 
+    filled-is : filled ≡ length (packedPoints (ringsOf L dx dy) ++ packedPoints (ringsOf U dx dy))
+    unfolding bandDrawing bandPointWords
+    filled-is =
+        let sets-are : filled ≡ bandPointWords (segmentCount L dx dy) (ringCount L dx dy) (segmentCount U dx dy) (ringCount U dx dy) =
+        filled-need ∙ ap (λ (d : BandDrawing). bandPointWords (d .«lower_segments») (d .«lower_rings») (d .«upper_segments») (d .«upper_rings»)) (done .is-drawing) in
+        omega (arith, sets-are, length-append (packedPoints (ringsOf L dx dy)) (packedPoints (ringsOf U dx dy)), lower-words, upper-words)
+
+    abbrev front : List ℕ
+    front = take filled points′
+
     point-place : length (packedPoints (ringsOf L dx dy)) ≡ pointWords (drawing .«lower_segments») (drawing .«lower_rings»)
     unfolding bandDrawing
     point-place = lower-words ∙ sym (ap (λ (d : BandDrawing). pointWords (d .«lower_segments») (d .«lower_rings»)) (done .is-drawing))
@@ -249,20 +260,20 @@ module _ (values : List Float) (lower upper : Float) (dx dy : ℕ) (lines links 
       records-length : length records ≡ 4 * length rings
       records-length = omega (arith, length-append (bareRecords 0 0 (ringsOf L dx dy)) (bareRecords 0 0 (ringsOf U dx dy)), lower-length, upper-length, rings-length)
 
-      laid : Laid rings points′ directory₁
+      filled-there : (filled ≤ length points′) × (front ≡ packedPoints (ringsOf L dx dy) ++ packedPoints (ringsOf U dx dy))
+      filled-there = rw points-written (written-front (packedPoints (ringsOf L dx dy) ++ packedPoints (ringsOf U dx dy)) points filled filled-is)
+
+      laid : Laid rings front directory₁
       unfolding written ringCount recordCount
       laid = record {
-        past = drop (length (packedPoints (ringsOf L dx dy) ++ packedPoints (ringsOf U dx dy))) points;
-        points-are =
-            points-written
-            ∙ ap (λ (l : List ℕ). l ++ drop (length (packedPoints (ringsOf L dx dy) ++ packedPoints (ringsOf U dx dy))) points) (sym (packed-both (ringsOf L dx dy) (ringsOf U dx dy)));
+        points-are = filled-there .1 ∙ sym (packed-both (ringsOf L dx dy) (ringsOf U dx dy));
         records-there = omega (arith, ap length directory-written, records-length, length-append records (drop (length records) directory));
         counts-are = λ r h.
             ap (λ (l : List ℕ). getD l (4 * r + 1) 0) directory-written
             ∙ both-counts (ringsOf L dx dy) (ringsOf U dx dy) (drop (length records) directory) lower-length r h;
       }
 
-      ownable-here : (words : ℕ) → words ≡ link-need → length links₂ ≡ length links → Ownable (built-is.Rings (ringCount L dx dy + ringCount U dx dy)) words links₂ points′ directory₁
+      ownable-here : (words : ℕ) → words ≡ link-need → length links₂ ≡ length links → Ownable (built-is.Rings (ringCount L dx dy + ringCount U dx dy)) words links₂ filled points′ directory₁
       unfolding Ownable bandLinkWords linkWords
       ownable-here words need long₂ =
           let long : words ≤ length links₂ = omega (arith, need, long₂, done .links-fit) in
@@ -271,7 +282,8 @@ module _ (values : List Float) (lower upper : Float) (dx dy : ℕ) (lines links 
           let few = few-segments values lower dx dy sized in
           let few′ = few-segments values upper dx dy sized in (
             long,
-            subst (λ (n : ℕ). Workable points′ directory₁ (take words links₂) n) rings-length
+            filled-there .0,
+            subst (λ (n : ℕ). Workable front directory₁ (take words links₂) n) rings-length
                 (workable laid (each-both Drawn (ringsOf L dx dy) (ringsOf U dx dy) (rings-drawn values lower dx dy sized) (rings-drawn values upper dx dy sized))
                 (omega (arith, rings-length, four, four′, few, few′))
                 (omega (arith, total-append length (ringsOf L dx dy) (ringsOf U dx dy), points-are values lower dx dy sized, points-are values upper dx dy sized, four, four′, few, few′))
@@ -279,10 +291,10 @@ module _ (values : List Float) (lower upper : Float) (dx dy : ℕ) (lines links 
                 (omega (arith, length-take-le words links₂ long, rings-length, four, four′, need))),
           )
 
-      owned-here : ownedDirectory true (built-is.Rings (ringCount L dx dy + ringCount U dx dy)) points′ directory₁ ≡ written (bandRecords (ringsOf L dx dy) (ringsOf U dx dy)) directory
+      owned-here : ownedDirectory true (built-is.Rings (ringCount L dx dy + ringCount U dx dy)) front directory₁ ≡ written (bandRecords (ringsOf L dx dy) (ringsOf U dx dy)) directory
       unfolding ownedDirectory recordsOf
       owned-here =
-          ap (λ (n : ℕ). written (sortedRecords (countedRings points′ directory₁ 0 n)) directory₁) (sym rings-length)
+          ap (λ (n : ℕ). written (sortedRecords (countedRings front directory₁ 0 n)) directory₁) (sym rings-length)
           ∙ ap (λ (l : List Line). written (sortedRecords l) directory₁) (rings-are laid)
           ∙ ap₂ written (same-records (ringsOf L dx dy) (ringsOf U dx dy)) directory-written
           ∙ written-over (bandRecords (ringsOf L dx dy) (ringsOf U dx dy)) records directory
@@ -337,28 +349,28 @@ module _ (values : List Float) (lower upper : Float) (dx dy : ℕ) (lines links 
         ∙ ap (λ (v : Verdict). passTable v directory (sets (storedFrom (directoryWords (drawing .«lower_rings»)) (walkRecords links₁ 0 0 (drawing .head) (drawing .«upper_segments»)) directory) 0
         (walkRecords (again .links) 0 0 (again .progress .head) (drawing .«lower_segments»)))) (room-is ∙ e)
 
-    directory-out : (v : Verdict) → outputs ≡ v → ownedDirectory true answer points′ directory₁ ≡ outputAfter passes outputs (bandRecords (ringsOf L dx dy) (ringsOf U dx dy)) directory
+    directory-out : (v : Verdict) → outputs ≡ v → ownedDirectory true answer front directory₁ ≡ outputAfter passes outputs (bandRecords (ringsOf L dx dy) (ringsOf U dx dy)) directory
     unfolding outputAfter ownedDirectory
     directory-out passes e =
-        ap (λ (a : Built). ownedDirectory true a points′ directory₁) (answer-is e) ∙ owned-here e
+        ap (λ (a : Built). ownedDirectory true a front directory₁) (answer-is e) ∙ owned-here e
         ∙ sym (ap (λ (v : Verdict). outputAfter passes v (bandRecords (ringsOf L dx dy) (ringsOf U dx dy)) directory) e)
     directory-out (refused why) e =
-        ap (λ (a : Built). ownedDirectory true a points′ directory₁) (answer-refused why e) ∙ directory-spared why e
+        ap (λ (a : Built). ownedDirectory true a front directory₁) (answer-refused why e) ∙ directory-spared why e
         ∙ sym (ap (λ (v : Verdict). outputAfter passes v (bandRecords (ringsOf L dx dy) (ringsOf U dx dy)) directory) e)
 
     module _ (words most : ℕ) (words-are : words ≡ linkWords most) (most-is : most ≡ max (drawing .«lower_segments») (drawing .«upper_segments»)) where
       need-is : words ≡ link-need
       need-is = words-are ∙ ap linkWords most-is ∙ link-words-are values lower upper dx dy lines links sized done
 
-      pub band-ownable : Ownable answer words links₂ points′ directory₁
+      pub band-ownable : Ownable answer words links₂ filled points′ directory₁
       unfolding Ownable
       band-ownable = by outputs refl
         where
-          by : (v : Verdict) → outputs ≡ v → Ownable answer words links₂ points′ directory₁
-          by passes e = subst (λ (a : Built). Ownable a words links₂ points′ directory₁) (sym (answer-is e)) (ownable-here e words need-is (links-kept .0))
-          by (refused why) e = subst (λ (a : Built). Ownable a words links₂ points′ directory₁) (sym (answer-refused why e)) tt
+          by : (v : Verdict) → outputs ≡ v → Ownable answer words links₂ filled points′ directory₁
+          by passes e = subst (λ (a : Built). Ownable a words links₂ filled points′ directory₁) (sym (answer-is e)) (ownable-here e words need-is (links-kept .0))
+          by (refused why) e = subst (λ (a : Built). Ownable a words links₂ filled points′ directory₁) (sym (answer-refused why e)) tt
 
-      pub isobands-done : (links₃ directory′ : List ℕ) → OwnersFound true answer words links₂ links₃ points′ directory₁ directory′ → (lines′ links′ : List ℕ) → lines′ ≡ cleared lines₂ (openWords dx (drawing .peak)) → links′ ≡ cleared links₃ words
+      pub isobands-done : (links₃ directory′ : List ℕ) → OwnersFound true answer words links₂ links₃ filled points′ directory₁ directory′ → (lines′ links′ : List ℕ) → lines′ ≡ cleared lines₂ (openWords dx (drawing .peak)) → links′ ≡ cleared links₃ words
           → BuiltOver fit-is.Fits L U dx dy lines links points directory answer lines′ links′ points′ directory′
       unfolding workAfter
       isobands-done links₃ directory′ found lines′ links′ el ek =

@@ -7,15 +7,15 @@ use Prim.Native.Nat.{ℕ, min, _+_, _*_, _≤_}
 use native.Mathlib.Omega.{arith}
 use lib.Ieee.{Float}
 use lib.ListN.{length, getD, take, drop, replicate, length-append}
-use lib.Seq.{length-take-le, drop-at}
+use lib.Seq.{length-take-le, take-at, drop-at}
 use Rattle.error.specs.declared.Refusal.{Refusal}
 use Rattle.scope.specs.Limits.{recordStride}
 use Rattle.scope.specs.Terrain.{Sheet, atLeast, terrain}
 use Rattle.scope.specs.Stitching.{Line}
 use Rattle.scope.specs.Drawing.{segmentCount, ringCount, ringsOf, peak}
-use Rattle.scope.specs.Room.{openWords, linkWords, directoryWords}
+use Rattle.scope.specs.Room.{openWords, linkWords, pointWords, directoryWords}
 use Rattle.scope.specs.Tables.{written, packedPoints, bareRecords, contourRecords}
-use Rattle.machine.proofs.Built.{links-kept, records-fill-their-room}
+use Rattle.machine.proofs.Built.{links-kept, packed-points-fill-their-room, records-fill-their-room}
 use Rattle.packing.specs.Cleared.{cleared}
 use Rattle.extents.specs.Records.{recordCount}
 use Rattle.regions.specs.Regions.{countedRings}
@@ -41,6 +41,12 @@ pub written-over : (new old table : List ℕ) → length new ≡ length old → 
 unfolding written
 written-over new old table e = ap (λ (l : List ℕ). new ++ l) (drop-at old (drop (length old) table) (length new) (sym e) ∙ ap (λ (n : ℕ). drop n table) (sym e))
 
+-- words that were written stand in front
+pub written-front : (words table : List ℕ) (n : ℕ) → n ≡ length words → (n ≤ length (written words table)) × (take n (written words table) ≡ words)
+unfolding written
+written-front words table n e =
+    (omega (arith, length-append words (drop (length words) table)), take-at words (drop (length words) table) n (sym e))
+
 -- clearing asks only for the length and the words past the need
 pub cleared-same : (words : ℕ) (table table′ : List ℕ) → length table′ ≡ length table → drop words table′ ≡ drop words table → cleared table′ words ≡ cleared table words
 unfolding cleared
@@ -65,7 +71,8 @@ module _ (values : List Float) (threshold : Float) (dx dy : ℕ) (lines links : 
       }
 
   module _ (drawing : Drawing) (lines₁ links₁ : List ℕ) (done : Done values threshold dx dy lines links drawing lines₁ links₁) (points directory : List ℕ) (answer : Built) (points′ directory₁ : List ℕ)
-      (packed : Packed drawing dx links₁ points directory answer points′ directory₁) where
+      (packed : Packed drawing dx links₁ points directory answer points′ directory₁)
+      (words : ℕ) (words-need : words ≡ linkWords (drawing .segments)) (filled : ℕ) (filled-need : filled ≡ pointWords (drawing .segments) (drawing .rings)) where
     -- what contour_rings would leave here
     bare : RingsBuilt values threshold dx dy lines links points directory answer (cleared lines₁ (openWords dx (drawing .peak))) (cleared links₁ (linkWords (drawing .segments))) points′ directory₁
     bare = built-done values threshold dx dy lines links drawing lines₁ links₁ done points directory answer points′ directory₁ packed
@@ -73,8 +80,14 @@ module _ (values : List Float) (threshold : Float) (dx dy : ℕ) (lines links : 
     abbrev outputs : Verdict
     outputs = outputVerdict A dx dy (length points) (length directory)
 
-    words-are : linkWords (drawing .segments) ≡ linkWords (segmentCount A dx dy)
-    words-are = ap (λ (d : Drawing). linkWords (d .segments)) (done .is-drawing)
+    words-are : words ≡ linkWords (segmentCount A dx dy)
+    words-are = words-need ∙ ap (λ (d : Drawing). linkWords (d .segments)) (done .is-drawing)
+
+    filled-is : filled ≡ length (packedPoints (ringsOf A dx dy))
+    filled-is = filled-need ∙ ap (λ (d : Drawing). pointWords (d .segments) (d .rings)) (done .is-drawing) ∙ sym (packed-points-fill-their-room A (outside values threshold dx dy (done .sized)))
+
+    abbrev front : List ℕ
+    front = take filled points′
 
     links-long : linkWords (segmentCount A dx dy) ≤ length links₁
     links-long =
@@ -100,29 +113,32 @@ module _ (values : List Float) (threshold : Float) (dx dy : ℕ) (lines links : 
       unfolding directoryWords recordStride
       bare-length = records-fill-their-room A (outside values threshold dx dy (done .sized))
 
-      laid : Laid (ringsOf A dx dy) points′ directory₁
+      filled-there : (filled ≤ length points′) × (front ≡ packedPoints (ringsOf A dx dy))
+      filled-there = rw points-written (written-front (packedPoints (ringsOf A dx dy)) points filled filled-is)
+
+      laid : Laid (ringsOf A dx dy) front directory₁
       unfolding written ringCount recordCount
       laid = record {
-        past = drop (length (packedPoints (ringsOf A dx dy))) points;
-        points-are = points-written;
+        points-are = filled-there .1;
         records-there = omega (arith, ap length directory-written, bare-length, length-append (bareRecords 0 0 (ringsOf A dx dy)) (drop (length (bareRecords 0 0 (ringsOf A dx dy))) directory));
         counts-are = λ r h. ap (λ (l : List ℕ). getD l (4 * r + 1) 0) directory-written ∙ bare-count 0 0 (ringsOf A dx dy) (drop (length (bareRecords 0 0 (ringsOf A dx dy))) directory) r h;
       }
 
-      ownable-here : Ownable (built-is.Rings (ringCount A dx dy)) (linkWords (drawing .segments)) links₁ points′ directory₁
+      ownable-here : Ownable (built-is.Rings (ringCount A dx dy)) words links₁ filled points′ directory₁
       unfolding Ownable ringCount linkWords
       ownable-here =
           let sized = done .sized in
-          let long : linkWords (drawing .segments) ≤ length links₁ = omega (arith, words-are, links-long) in (
+          let long : words ≤ length links₁ = omega (arith, words-are, links-long) in (
             long,
+            filled-there .0,
             workable laid (rings-drawn values threshold dx dy sized)
                 (omega (arith, fours values threshold dx dy sized, few-segments values threshold dx dy sized))
                 (omega (arith, points-are values threshold dx dy sized, points-fit values threshold dx dy sized))
-                (take (linkWords (drawing .segments)) links₁)
-                (omega (arith, length-take-le (linkWords (drawing .segments)) links₁ long, words-are, fours values threshold dx dy sized)),
+                (take words links₁)
+                (omega (arith, length-take-le words links₁ long, words-are, fours values threshold dx dy sized)),
           )
 
-      owned-here : ownedDirectory false (built-is.Rings (ringCount A dx dy)) points′ directory₁ ≡ written (contourRecords (ringsOf A dx dy)) directory
+      owned-here : ownedDirectory false (built-is.Rings (ringCount A dx dy)) front directory₁ ≡ written (contourRecords (ringsOf A dx dy)) directory
       unfolding ownedDirectory recordsOf ringCount
       owned-here =
           ap (λ (rings : List Line). written (contourRecords rings) directory₁) (rings-are laid)
@@ -138,35 +154,35 @@ module _ (values : List Float) (threshold : Float) (dx dy : ℕ) (lines links : 
       unfolding outputAfter
       directory-spared = bare .directory-is ∙ ap₂ (λ (v w : Verdict). outputAfter v w (bareRecords 0 0 (ringsOf A dx dy)) directory) (done .is-passes) is
 
-    pub ownable : (words : ℕ) → words ≡ linkWords (drawing .segments) → Ownable answer words links₁ points′ directory₁
+    pub ownable : Ownable answer words links₁ filled points′ directory₁
     unfolding Ownable
-    ownable words need = subst (λ (n : ℕ). Ownable answer n links₁ points′ directory₁) (sym need) (by outputs refl)
+    ownable = by outputs refl
       where
-        by : (v : Verdict) → outputs ≡ v → Ownable answer (linkWords (drawing .segments)) links₁ points′ directory₁
-        by passes e = subst (λ (a : Built). Ownable a (linkWords (drawing .segments)) links₁ points′ directory₁) (sym (answer-is e)) (ownable-here e)
-        by (refused why) e = subst (λ (a : Built). Ownable a (linkWords (drawing .segments)) links₁ points′ directory₁) (sym (answer-refused why e)) tt
+        by : (v : Verdict) → outputs ≡ v → Ownable answer words links₁ filled points′ directory₁
+        by passes e = subst (λ (a : Built). Ownable a words links₁ filled points′ directory₁) (sym (answer-is e)) (ownable-here e)
+        by (refused why) e = subst (λ (a : Built). Ownable a words links₁ filled points′ directory₁) (sym (answer-refused why e)) tt
 
-    directory-owned : ownedDirectory false answer points′ directory₁ ≡ outputAfter passes outputs (contourRecords (ringsOf A dx dy)) directory
+    directory-owned : ownedDirectory false answer front directory₁ ≡ outputAfter passes outputs (contourRecords (ringsOf A dx dy)) directory
     unfolding ownedDirectory outputAfter
     directory-owned = by outputs refl
       where
-        by : (v : Verdict) → outputs ≡ v → ownedDirectory false answer points′ directory₁ ≡ outputAfter passes outputs (contourRecords (ringsOf A dx dy)) directory
+        by : (v : Verdict) → outputs ≡ v → ownedDirectory false answer front directory₁ ≡ outputAfter passes outputs (contourRecords (ringsOf A dx dy)) directory
         by passes e =
-            ap (λ (a : Built). ownedDirectory false a points′ directory₁) (answer-is e) ∙ owned-here e
+            ap (λ (a : Built). ownedDirectory false a front directory₁) (answer-is e) ∙ owned-here e
             ∙ sym (ap (λ (v : Verdict). outputAfter passes v (contourRecords (ringsOf A dx dy)) directory) e)
         by (refused why) e =
-            ap (λ (a : Built). ownedDirectory false a points′ directory₁) (answer-refused why e) ∙ directory-spared why e
+            ap (λ (a : Built). ownedDirectory false a front directory₁) (answer-refused why e) ∙ directory-spared why e
             ∙ sym (ap (λ (v : Verdict). outputAfter passes v (contourRecords (ringsOf A dx dy)) directory) e)
 
-    pub contours-done : (words : ℕ) → words ≡ linkWords (drawing .segments) → (links₂ directory′ : List ℕ) → OwnersFound false answer words links₁ links₂ points′ directory₁ directory′
+    pub contours-done : (links₂ directory′ : List ℕ) → OwnersFound false answer words links₁ links₂ filled points′ directory₁ directory′
         → (lines′ links′ : List ℕ) → lines′ ≡ cleared lines₁ (openWords dx (drawing .peak)) → links′ ≡ cleared links₂ words
         → ContoursBuilt values threshold dx dy lines links points directory answer lines′ links′ points′ directory′
-    contours-done words need links₂ directory′ found lines′ links′ lines-cleared links-cleared = record {
+    contours-done links₂ directory′ found lines′ links′ lines-cleared links-cleared = record {
       answers = bare .answers;
       lines-are = lines-cleared ∙ bare .lines-are;
       links-are =
           links-cleared ∙ cleared-same words links₁ links₂ (found .as-long) (found .past-stays)
-          ∙ ap (cleared links₁) need ∙ bare .links-are;
+          ∙ ap (cleared links₁) words-need ∙ bare .links-are;
       points-are = bare .points-are;
       directory-is =
           found .directory-is ∙ directory-owned

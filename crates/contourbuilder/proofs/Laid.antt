@@ -5,7 +5,7 @@ use mathlib.Core.List.{List, [], _∷_, _++_, append-assoc}
 use Prim.Native.Nat.{ℕ, zero, suc, _+_, _*_, _^_, _≤_, _<_}
 use native.Mathlib.Nat.{le-of-suc-le-suc, not-suc-le-zero}
 use native.Mathlib.Omega.{arith}
-use lib.ListN.{length, getD, length-append, List·getD-append}
+use lib.ListN.{length, getD, length-append}
 use lib.Seq.{getD-append-add, getD-append-seam}
 use Rattle.scope.specs.Limits.{coordinateLimit, pointLimit}
 use Rattle.scope.specs.Cells.{Point}
@@ -44,18 +44,15 @@ ring-length [] = refl
 ring-length (p ∷ l) = omega (arith, ring-length l)
 
 -- of rings packed behind 2k words, the ring of number r
-ring-packed : (before : List ℕ) (k : ℕ) (rings : List Line) (past : List ℕ) (r : ℕ) → length before ≡ 2 * k → r < length rings
-    → ringIn (before ++ (packedPoints rings ++ past)) (k + firstPoint rings r) (length (getD rings r [])) ≡ getD rings r []
+ring-packed : (before : List ℕ) (k : ℕ) (rings : List Line) (r : ℕ) → length before ≡ 2 * k → r < length rings
+    → ringIn (before ++ packedPoints rings) (k + firstPoint rings r) (length (getD rings r [])) ≡ getD rings r []
 unfolding packedPoints firstPoint
-ring-packed before k [] past r h hr = absurd (not-suc-le-zero hr)
-ring-packed before k (ring ∷ rings) past zero h hr =
-    ap₂ (λ (ws : List ℕ) (i : ℕ). ringIn ws i (length ring)) (ap (λ (ws : List ℕ). before ++ ws) (append-assoc (ringWords ring) (packedPoints rings) past)) (omega arith)
-    ∙ ring-behind before k ring (packedPoints rings ++ past) h
-ring-packed before k (ring ∷ rings) past (suc r) h hr =
-    ap₂ (λ (ws : List ℕ) (i : ℕ). ringIn ws i (length (getD rings r [])))
-    (ap (λ (ws : List ℕ). before ++ ws) (append-assoc (ringWords ring) (packedPoints rings) past) ∙ sym (append-assoc before (ringWords ring) (packedPoints rings ++ past)))
-    (omega arith)
-    ∙ ring-packed (before ++ ringWords ring) (k + length ring) rings past r (omega (arith, length-append before (ringWords ring), ring-length ring)) (le-of-suc-le-suc hr)
+ring-packed before k [] r h hr = absurd (not-suc-le-zero hr)
+ring-packed before k (ring ∷ rings) zero h hr =
+    ap (λ (i : ℕ). ringIn (before ++ (ringWords ring ++ packedPoints rings)) i (length ring)) (omega arith) ∙ ring-behind before k ring (packedPoints rings) h
+ring-packed before k (ring ∷ rings) (suc r) h hr =
+    ap₂ (λ (ws : List ℕ) (i : ℕ). ringIn ws i (length (getD rings r []))) (sym (append-assoc before (ringWords ring) (packedPoints rings))) (omega arith)
+    ∙ ring-packed (before ++ ringWords ring) (k + length ring) rings r (omega (arith, length-append before (ringWords ring), ring-length ring)) (le-of-suc-le-suc hr)
 
 -- every packed word is within the limit
 words-within : (limit : ℕ) (l : Line) → Each (λ p. (p .x ≤ limit) × (p .y ≤ limit)) l → (past : List ℕ) → ((i : ℕ) → getD past i 0 ≤ limit) → (i : ℕ) → getD (ringWords l ++ past) i 0 ≤ limit
@@ -117,10 +114,9 @@ all-inside : (rings : List Line) → Each Drawn rings → Each (Each (λ p. (p .
 all-inside [] d = tt
 all-inside (ring ∷ rings) d = (d .0 .inside, all-inside rings (d .1))
 
--- the rings are packed in front of the points, and the records have their counts
+-- the points are the rings packed, and the records have their counts
 pub record Laid (rings : List Line) (points directory : List ℕ) : Type 0 where
-  pub past : List ℕ
-  pub points-are : points ≡ packedPoints rings ++ past
+  pub points-are : points ≡ packedPoints rings
   pub records-there : 4 * length rings ≤ length directory
   pub counts-are : (r : ℕ) → r < length rings → recordCount directory r ≡ length (getD rings r [])
 
@@ -134,8 +130,8 @@ module _ {rings : List Line} {points directory : List ℕ} (laid : Laid rings po
   ring-in : (r : ℕ) → r < length rings → ringIn points (startOf directory r) (recordCount directory r) ≡ getD rings r []
   ring-in r h =
       ap₂ (λ (ws : List ℕ) (i : ℕ). ringIn ws i (recordCount directory r)) (laid .points-are) (omega (arith, start-is r (omega arith)))
-      ∙ ap (ringIn (packedPoints rings ++ laid .past) (0 + firstPoint rings r)) (laid .counts-are r h)
-      ∙ ring-packed [] 0 rings (laid .past) r refl h
+      ∙ ap (ringIn (packedPoints rings) (0 + firstPoint rings r)) (laid .counts-are r h)
+      ∙ ring-packed [] 0 rings r refl h
 
   pub ring-is : (r : ℕ) → r < length rings → countedRing points directory r ≡ getD rings r []
   unfolding countedRing
@@ -160,7 +156,7 @@ module _ {rings : List Line} {points directory : List ℕ} (laid : Laid rings po
       points-there = omega (arith, points-long, all-points);
       points-few = omega (arith, all-points);
       counts-within = λ r h. (omega (arith, laid .counts-are r h, at r h .some), omega (arith, laid .counts-are r h, at r h .few));
-      coordinates-within = λ i h. omega (arith, words-are i (omega (arith, all-points)), packed-within coordinateLimit rings insides i);
+      coordinates-within = λ i h. omega (arith, words-are i, packed-within coordinateLimit rings insides i);
     };
     rings-there = λ r h. record {
       some = omega (arith, laid .counts-are r h, at r h .some);
@@ -177,10 +173,10 @@ module _ {rings : List Line} {points directory : List ℕ} (laid : Laid rings po
       all-points = start-is (length rings) (omega arith) ∙ first-all rings
 
       points-long : 2 * total length rings ≤ length points
-      points-long = omega (arith, ap length (laid .points-are), length-append (packedPoints rings) (laid .past), packed-length rings)
+      points-long = omega (arith, ap length (laid .points-are), packed-length rings)
 
       insides : Each (Each (λ p. (p .x ≤ coordinateLimit) × (p .y ≤ coordinateLimit))) rings
       insides = all-inside rings drawn
 
-      words-are : (i : ℕ) → i < 2 * total length rings → getD points i 0 ≡ getD (packedPoints rings) i 0
-      words-are i h = ap (λ (ws : List ℕ). getD ws i 0) (laid .points-are) ∙ List·getD-append (packedPoints rings) (laid .past) 0 i (omega (arith, packed-length rings))
+      words-are : (i : ℕ) → getD points i 0 ≡ getD (packedPoints rings) i 0
+      words-are i = ap (λ (ws : List ℕ). getD ws i 0) (laid .points-are)

@@ -13,22 +13,22 @@ use Rattle.isoringbuilder.specs.declared.Built.the-variants as built-is
 use Rattle.regions.specs.Regions.{countedRings, Workable}
 use Rattle.contourbuilder.specs.Owning.{recordsOf, Ownable, ownedDirectory, OwnersFound}
 
-pub ownable-rings : {answer : Built} {rings : ℕ} → answer ≡ built-is.Rings rings → (words : ℕ) (links points directory : List ℕ) → Ownable answer words links points directory
-    → (words ≤ length links) × Workable points directory (take words links) rings
+pub ownable-rings : {answer : Built} {rings : ℕ} → answer ≡ built-is.Rings rings → (words : ℕ) (links : List ℕ) (filled : ℕ) (points directory : List ℕ) → Ownable answer words links filled points directory
+    → (words ≤ length links) × (filled ≤ length points) × Workable (take filled points) directory (take words links) rings
 unfolding Ownable
-ownable-rings {answer} {rings} e words links points directory o = subst (λ (a : Built). Ownable a words links points directory) e o
+ownable-rings {answer} {rings} e words links filled points directory o = subst (λ (a : Built). Ownable a words links filled points directory) e o
 
-pub none-written : {answer : Built} {why : Refusal} → answer ≡ built-is.Refused why → (band : Bool) (words : ℕ) (links points directory : List ℕ)
-    → OwnersFound band answer words links links points directory directory
+pub none-written : {answer : Built} {why : Refusal} → answer ≡ built-is.Refused why → (band : Bool) (words : ℕ) (links : List ℕ) (filled : ℕ) (points directory : List ℕ)
+    → OwnersFound band answer words links links filled points directory directory
 unfolding ownedDirectory
-none-written e band words links points directory =
-    record { directory-is = sym (ap (λ (a : Built). ownedDirectory band a points directory) e); as-long = refl; past-stays = refl }
+none-written e band words links filled points directory =
+    record { directory-is = sym (ap (λ (a : Built). ownedDirectory band a (take filled points) directory) e); as-long = refl; past-stays = refl }
 
-pub owners-written : {answer : Built} {rings : ℕ} → answer ≡ built-is.Rings rings → (band : Bool) (words : ℕ) (links part points directory directory′ : List ℕ) → words ≤ length links → length part ≡ words
-    → directory′ ≡ written (recordsOf band (countedRings points directory 0 rings)) directory → OwnersFound band answer words links (part ++ drop words links) points directory directory′
+pub owners-written : {answer : Built} {rings : ℕ} → answer ≡ built-is.Rings rings → (band : Bool) (words : ℕ) (links part : List ℕ) (filled : ℕ) (points directory directory′ : List ℕ) → words ≤ length links → length part ≡ words
+    → directory′ ≡ written (recordsOf band (countedRings (take filled points) directory 0 rings)) directory → OwnersFound band answer words links (part ++ drop words links) filled points directory directory′
 unfolding ownedDirectory
-owners-written e band words links part points directory directory′ h long d = record {
-  directory-is = d ∙ sym (ap (λ (a : Built). ownedDirectory band a points directory) e);
+owners-written e band words links part filled points directory directory′ h long d = record {
+  directory-is = d ∙ sym (ap (λ (a : Built). ownedDirectory band a (take filled points) directory) e);
   as-long = omega (arith, length-append part (drop words links), length-drop words links);
   past-stays = drop-at part (drop words links) words long;
 }

@@ -14,18 +14,18 @@ use Rattle.regions.specs.Regions.{countedRings, sortedRecords, Workable}
 unfoldable pub recordsOf : Bool → List Line → List ℕ
 recordsOf band rings = cond band (sortedRecords rings) (contourRecords rings)
 
--- rings that were written can be worked on in the first words of the link table
-unfoldable pub Ownable : Built → ℕ → List ℕ → List ℕ → List ℕ → Type 0
-Ownable (built-is.Refused why) words links points directory = Unit {0}
-Ownable (built-is.Rings rings) words links points directory = (words ≤ length links) × Workable points directory (take words links) rings
+-- rings that were written can be worked on in the first words of the link table, over the first words of the points
+unfoldable pub Ownable : Built → ℕ → List ℕ → ℕ → List ℕ → List ℕ → Type 0
+Ownable (built-is.Refused why) words links filled points directory = Unit {0}
+Ownable (built-is.Rings rings) words links filled points directory = (words ≤ length links) × (filled ≤ length points) × Workable (take filled points) directory (take words links) rings
 
 -- the directory once the owners of rings that were written are found
 unfoldable pub ownedDirectory : Bool → Built → List ℕ → List ℕ → List ℕ
 ownedDirectory band (built-is.Refused why) points directory = directory
 ownedDirectory band (built-is.Rings rings) points directory = written (recordsOf band (countedRings points directory 0 rings)) directory
 
--- the words past those that were worked in are as they were
-pub record OwnersFound (band : Bool) (answer : Built) (words : ℕ) (links links′ points directory directory′ : List ℕ) : Type 0 where
-  pub directory-is : directory′ ≡ ownedDirectory band answer points directory
+-- only the first words of the points are looked at, and the words of the link table past those that were worked in are as they were
+pub record OwnersFound (band : Bool) (answer : Built) (words : ℕ) (links links′ : List ℕ) (filled : ℕ) (points directory directory′ : List ℕ) : Type 0 where
+  pub directory-is : directory′ ≡ ownedDirectory band answer (take filled points) directory
   pub as-long : length links′ ≡ length links
   pub past-stays : drop words links′ ≡ drop words links

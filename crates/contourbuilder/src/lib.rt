@@ -4,6 +4,7 @@ use bands::BandPass;
 use bands::band_pack;
 use bands::band_pair;
 use bands::band_pass;
+use bands::band_point_words;
 use bands::larger;
 use cells::Level;
 use grid::GridFit;
@@ -12,6 +13,7 @@ use isoringbuilder::Pass;
 use isoringbuilder::link_words;
 use isoringbuilder::open_words;
 use isoringbuilder::pack;
+use isoringbuilder::point_words;
 use isoringbuilder::run_pass;
 use packing::clear;
 use regions::own_band;
@@ -40,20 +42,22 @@ fn own_either(band: bool, points: &[u16], directory: &mut [u32], n: usize, scrat
 }
 
 // The classes and owners of the rings that were written, where any were. The first `words` words of the
-// link table are worked in.
+// link table are worked in, and the first `filled` words of the points are read.
 fn own_rings(
     answer: Built,
     band: bool,
     words: usize,
     links: &mut [u32],
+    filled: usize,
     points: &[u16],
     directory: &mut [u32],
 )
-    requires { ⌜ Ownable answer words (now links) (now points) (now directory) ⌝ }
-    ensures { λ _. ⌜ OwnersFound band answer words (now (links .entry)) (now (links .exit)) (now (points .entry)) (now (directory .entry)) (now (directory .exit)) ⌝ }
+    requires { ⌜ Ownable answer words (now links) filled (now points) (now directory) ⌝ }
+    ensures { λ _. ⌜ OwnersFound band answer words (now (links .entry)) (now (links .exit)) filled (now (points .entry)) (now (directory .entry)) (now (directory .exit)) ⌝ }
 {
     if let Built::Rings(rings) = answer {
-        own_either(band, points, directory, rings as usize, &mut links[..words]);
+        let drawn = &points[..filled];
+        own_either(band, drawn, directory, rings as usize, &mut links[..words]);
     }
 }
 
@@ -79,7 +83,8 @@ pub fn contours(
             let peak = drawing.peak;
             let segments = drawing.segments;
             let words = link_words(segments);
-            own_rings(answer, false, words, links, points, directory);
+            let filled = point_words(segments, drawing.rings);
+            own_rings(answer, false, words, links, filled, points, directory);
             clear(lines, open_words(dx, peak));
             clear(links, words);
             answer
@@ -122,7 +127,8 @@ fn band_over(
             );
             let peak = drawing.peak;
             let words = link_words(larger(drawing.lower_segments, drawing.upper_segments));
-            own_rings(answer, true, words, links, points, directory);
+            let filled = band_point_words(drawing);
+            own_rings(answer, true, words, links, filled, points, directory);
             clear(lines, open_words(dx, peak));
             clear(links, words);
             answer

@@ -14,7 +14,7 @@ ghost use mathlib.Core.Path.{_≡_};
 ghost use Prim.Native.Nat.{_≤_};
 ghost use lib.ListN.{length};
 ghost use Rattle.scope.specs.Limits.{sideLimit};
-ghost use Rattle.scope.specs.Room.{openWords, linkWords, directoryWords};
+ghost use Rattle.scope.specs.Room.{openWords, linkWords, pointWords, directoryWords};
 ghost use Rattle.grid.specs.Grid.{gridFit};
 ghost use Rattle.isoringbuilder.specs.Answers.{SecondReported, RingsBuilt};
 ghost use Rattle.isoringbuilder.specs.Verdict.{roomVerdict};
@@ -68,6 +68,13 @@ pub fn link_words(segments: u32) -> usize
     ensures { λ r. ⌜ r ≡ linkWords segments ⌝ }
 {
     2 * (segments as usize)
+}
+
+// The words that the points need for this many segments and rings: 2(S + R).
+pub fn point_words(segments: u32, rings: u32) -> usize
+    ensures { λ r. ⌜ r ≡ pointWords segments rings ⌝ }
+{
+    2 * (segments as usize + rings as usize)
 }
 
 // The stitching pass over a grid that fits: both work tables are tested, and nothing is touched where one is short.
@@ -154,7 +161,7 @@ pub fn second_report(
 pub fn answer_for(segments: u32, rings: u32, points: usize, room: usize) -> Built
     ensures { λ r. ⌜ r ≡ packed (roomVerdict segments rings points (directoryWords room)) rings ⌝ }
 {
-    if points < 2 * (segments as usize + rings as usize) {
+    if points < point_words(segments, rings) {
         return Built::Refused(Refusal::PointsShort);
     }
     if room < rings as usize {

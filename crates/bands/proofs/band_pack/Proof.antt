@@ -3,41 +3,19 @@
 use mathlib.Core.Path.{refl}
 use native.Mathlib.Omega.{arith}
 use Rattle.scope.specs.Limits.{sideLimit, recordStride}
-use Rattle.scope.specs.Room.{pointWords, pointCount, directoryWords, bandPointWords, bandDirectoryWords}
+use Rattle.scope.specs.Room.{directoryWords, bandPointWords, bandDirectoryWords}
 use Rattle.bands.proofs.Packs.{points-short, directory-short, packs-done}
 use borrow.Author.Needs.{needs}
 use Rattle.bands.proofs.band_pack.Statement.{statement}
 use Rattle.bands.proofs.band_pack.Tie as tie
 
-cast-words : tie.Need-cast-words
-cast-words c = search needs
+point-words-requires : tie.Need-point-words-requires
+point-words-requires c κs = search needs
 
-cast-words-2 : tie.Need-cast-words-2
-cast-words-2 c = search needs
-
-add-words : tie.Need-add-words
-add-words c = search needs
-
-mul-words : tie.Need-mul-words
-mul-words c = search needs
-
-cast-if1 : tie.Need-cast-if1
-cast-if1 c = search needs
-
-cast-if1-2 : tie.Need-cast-if1-2
-cast-if1-2 c = search needs
-
-add-if1 : tie.Need-add-if1
-add-if1 c = search needs
-
-mul-if1 : tie.Need-mul-if1
-mul-if1 c = search needs
-
-add-if1-2 : tie.Need-add-if1-2
-add-if1-2 c = search needs
+band-point-words-requires : tie.Need-band-point-words-requires
+band-point-words-requires c κs = search needs
 
 returns : tie.Need-returns
-unfolding bandPointWords pointWords pointCount
 returns c = points-short _ _ _ _ _ _ _ _ (omega arith)
 
 add-rings : tie.Need-add-rings
@@ -50,7 +28,7 @@ mul-if2 : tie.Need-mul-if2
 mul-if2 c = search needs
 
 returns-2 : tie.Need-returns-2
-unfolding bandPointWords pointWords pointCount bandDirectoryWords directoryWords recordStride
+unfolding bandDirectoryWords directoryWords recordStride
 returns-2 c = directory-short _ _ _ _ _ _ _ _ (omega arith) (omega arith)
 
 cast-records : tie.Need-cast-records
@@ -62,10 +40,11 @@ mul-records c = search needs
 cast-write-behind : tie.Need-cast-write-behind
 unfolding sideLimit
 cast-write-behind c =
-    let start = c .before .before .before .before .before .before .before .before in
+    let start = c .before .before .before .before .before .before .before .before .before .before in
     omega (arith, start .pre .0 .columns)
 
 write-behind-requires : tie.Need-write-behind-requires
+unfolding bandPointWords
 write-behind-requires c κs = search needs
 
 stitch-requires : tie.Need-stitch-requires
@@ -74,7 +53,7 @@ stitch-requires c κs = search needs
 cast-write-rings : tie.Need-cast-write-rings
 unfolding sideLimit
 cast-write-rings c =
-    let start = c .before .before .before .before .before .before .before .before .before .before .before .before .before .before .before .before .before .before .before .before .before .before .before in
+    let start = c .before .before .before .before .before .before .before .before .before .before .before .before .before .before .before .before .before .before .before .before .before .before .before .before .before in
     omega (arith, start .pre .0 .columns)
 
 write-rings-requires : tie.Need-write-rings-requires
@@ -93,7 +72,7 @@ same-length-4 : tie.Need-same-length-4
 same-length-4 c = search needs
 
 returns-3 : tie.Need-returns-3
-unfolding bandPointWords pointWords pointCount bandDirectoryWords directoryWords recordStride
+unfolding bandDirectoryWords directoryWords recordStride
 returns-3 c =
     let at-lower = c .before .before .before .before in
     let at-stitch = at-lower .before .before .before .before .before .before .before .before in
@@ -101,21 +80,14 @@ returns-3 c =
     let fits = at-upper .before .before .before .before in
     let upper = at-upper .write-behind .ensures in
     let lower = at-lower .write-rings .ensures in
-    packs-done _ _ _ _ _ _ _ _ (omega (arith, fits .before .if1 .left)) (omega (arith, fits .if2 .left)) _ _ _ refl refl refl _ _ _ (at-stitch .stitch .ensures) _ _ _ _ (upper .0) (upper .1) (lower .0) (lower .1)
+    packs-done _ _ _ _ _ _ _ _ (omega (arith, fits .before .if1 .left)) (omega (arith, fits .if2 .left)) _ _ _ refl (fits .before .before .before .point-words .ensures) refl _ _ _ (at-stitch .stitch .ensures) _ _ _ _ (upper .0) (upper .1) (lower .0) (lower .1)
 
 pub band-pack-spec : {M : Type 1} → statement M
 band-pack-spec =
     tie.close
     (tie.spec
-    cast-words
-    cast-words-2
-    add-words
-    mul-words
-    cast-if1
-    cast-if1-2
-    add-if1
-    mul-if1
-    add-if1-2
+    point-words-requires
+    band-point-words-requires
     returns
     add-rings
     cast-if2

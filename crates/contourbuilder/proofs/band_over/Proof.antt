@@ -33,19 +33,23 @@ larger-requires c κs = search needs
 link-words-requires : tie.Need-link-words-requires
 link-words-requires c κs = search needs
 
+band-point-words-requires : tie.Need-band-point-words-requires
+band-point-words-requires c κs = search needs
+
 own-rings-requires : tie.Need-own-rings-requires
 own-rings-requires c κs =
-    let at-words = c .before .before .before in
+    let at-filled = c .before .before .before in
+    let at-words = at-filled .before in
     let at-pack = at-words .before .before .before .before .before .before .before .before .before .before in
     let known = at-pack .before .before .before .before .before .before .before in
     let passed = known .before .before .before .before .before .before in
     let start = passed .before .before .before .before .before .before .before .before .before in
     let facts = band-done _ _ _ _ _ _ _ _ _ (known .drawing .given .1) _ _ _ (passed .band-pass .ensures) in
-    band-ownable _ _ _ _ _ _ _ (a-grid-that-fits-is-sized _ _ _ (start .pre)) facts _ _ _ _ _ _ _ (at-pack .band-pack .ensures) _ _ (at-words .link-words .ensures) (at-words .before .larger .ensures)
+    band-ownable _ _ _ _ _ _ _ (a-grid-that-fits-is-sized _ _ _ (start .pre)) facts _ _ _ _ _ _ _ (at-pack .band-pack .ensures) _ (at-filled .band-point-words .ensures) _ _ (at-words .link-words .ensures) (at-words .before .larger .ensures)
 
 open-words-requires : tie.Need-open-words-requires
 open-words-requires c κs =
-    let start = c .before .before .before .before .before .before .before .before .before .before .before .before .before .before .before .before .before .before .before .before .before .before .before .before .before .before .before .before .before .before .before .before .before .before .before .before .before .before .before .before .before in
+    let start = c .before .before .before .before .before .before .before .before .before .before .before .before .before .before .before .before .before .before .before .before .before .before .before .before .before .before .before .before .before .before .before .before .before .before .before .before .before .before .before .before .before .before in
     a-grid-that-fits-is-sized _ _ _ (start .pre) .columns
 
 clear-requires : tie.Need-clear-requires
@@ -68,7 +72,7 @@ returns c =
 same-length-3 : tie.Need-same-length-3
 same-length-3 c =
     let at-lines = c .before .before .before .before .before .before in
-    let at-pack = at-lines .before .before .before .before .before .before .before .before .before .before .before .before .before .before .before .before .before .before .before .before .before in
+    let at-pack = at-lines .before .before .before .before .before .before .before .before .before .before .before .before .before .before .before .before .before .before .before .before .before .before in
     let passed = at-pack .before .before .before .before .before .before .before .before .before .before .before .before .before in
     at-lines .clear .kept .0 ∙ at-pack .band-pack .kept .1 .1 .1 .1 .1 .1 .0 ∙ passed .band-pass .kept .1 .1 .1 .1 .1 .1 .0
 
@@ -76,7 +80,7 @@ same-length-4 : tie.Need-same-length-4
 same-length-4 c =
     let at-links = c .before .before in
     let at-owners = at-links .before .before .before .before .before .before .before .before .before .before .before in
-    let at-pack = at-owners .before .before .before .before .before .before .before .before .before .before .before .before .before .before in
+    let at-pack = at-owners .before .before .before .before .before .before .before .before .before .before .before .before .before .before .before in
     let passed = at-pack .before .before .before .before .before .before .before .before .before .before .before .before .before in
     at-links .clear2 .kept .0 ∙ at-owners .own-rings .kept .1 .1 .1 .0 ∙ at-pack .band-pack .kept .1 .1 .1 .1 .1 .1 .1 .0 ∙ passed .band-pass .kept .1 .1 .1 .1 .1 .1 .1 .0
 
@@ -92,13 +96,14 @@ returns-2 c =
     let at-lines = at-links .before .before .before .before in
     let at-open = at-lines .before in
     let at-owners = at-open .before .before .before .before .before .before in
-    let at-words = at-owners .before .before .before .before in
+    let at-filled = at-owners .before .before .before .before in
+    let at-words = at-filled .before in
     let at-pack = at-words .before .before .before .before .before .before .before .before .before .before in
     let known = at-pack .before .before .before .before .before .before .before in
     let passed = known .before .before .before .before .before .before in
     let start = passed .before .before .before .before .before .before .before .before .before in
     let facts = band-done _ _ _ _ _ _ _ _ _ (known .drawing .given .1) _ _ _ (passed .band-pass .ensures) in
-    isobands-done _ _ _ _ _ _ _ (a-grid-that-fits-is-sized _ _ _ (start .pre)) facts _ _ _ _ _ _ _ (at-pack .band-pack .ensures) _ _ (at-words .link-words .ensures) (at-words .before .larger .ensures) _ _
+    isobands-done _ _ _ _ _ _ _ (a-grid-that-fits-is-sized _ _ _ (start .pre)) facts _ _ _ _ _ _ _ (at-pack .band-pack .ensures) _ (at-filled .band-point-words .ensures) _ _ (at-words .link-words .ensures) (at-words .before .larger .ensures) _ _
     (at-owners .own-rings .ensures) _ _ (rw (← at-open .open-words .ensures) (at-lines .clear .ensures)) (at-links .clear2 .ensures)
 
 pub band-over-spec : {M : Type 1} → statement M
@@ -111,6 +116,7 @@ band-over-spec =
     band-pack-requires
     larger-requires
     link-words-requires
+    band-point-words-requires
     own-rings-requires
     open-words-requires
     clear-requires
