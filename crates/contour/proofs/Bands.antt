@@ -27,7 +27,7 @@ use Rattle.bands.specs.Bands.{bandFit, lowerSheet, upperSheet, bandVerdict, ban
 use Rattle.contourbuilder.proofs.Lengths.{packed-both, band-length}
 use Rattle.contour.proofs.Lowest.{by-one, by-two, ReportExact}
 use Rattle.contour.proofs.Results.{Worked, Plan, Constructed, one-worked, one-construction, Exact, worked-exact, constructed-exact, JustRoom, Filled, fills}
-use Rattle.contour.proofs.Theorems.{first-report-exactly, reports}
+use Rattle.contour.proofs.Theorems.{report-for-exactly, reports}
 use Rattle.contour.proofs.Fits.{FitExact, band-early, fit-exact}
 
 -- ---- 1. by a fit and two sheets
@@ -51,7 +51,7 @@ planOver fit L U dx dy = record {
 }
 
 module _ {fit : GridFit} {L U : Sheet} {dx dy : ℕ} {lines links : List ℕ} where
-  report-worked : {answer : SecondReport} {lines′ links′ : List ℕ} → ReportedOver fit L U dx dy lines links answer lines′ links′
+  pub report-worked : {answer : SecondReport} {lines′ links′ : List ℕ} → ReportedOver fit L U dx dy lines links answer lines′ links′
       → Worked second-is.Refused (roomOver L U dx dy) fit (bandOpenWords dx (peak L dx dy) (peak U dx dy)) (bandLinkWords (segmentCount L dx dy) (segmentCount U dx dy)) passes lines links answer lines′ links′
   unfolding bandVerdict bandReported
   report-worked r = record {
@@ -106,7 +106,7 @@ module _ (values thresholds : List Float) (k dx dy : ℕ) where
       × ((bandFit (length values) dx dy (length thresholds) k ≡ fit-is.Fits) ↔ (bandFirstReport values thresholds k dx dy ≡ bandRoomOf (lowerSheet values thresholds k dx dy) (upperSheet values thresholds k dx dy) dx dy))
   unfolding bandFirstReport bandRoomOf
   band-first-report-exactly =
-      let exactly = first-report-exactly (bandFit (length values) dx dy (length thresholds) k) _ _ in
+      let exactly = report-for-exactly (bandFit (length values) dx dy (length thresholds) k) _ _ in
       (fit-exact (length values) dx dy (length thresholds) k (λ why low. exactly .0 why), exactly .1)
 
   module _ (lines links : List ℕ) where

@@ -14,7 +14,7 @@ use Rattle.grid.specs.declared.GridFit.{GridFit}
 use Rattle.grid.specs.declared.GridFit.the-variants as fit-is
 use Rattle.bands.specs.Bands.{listFit, bandFit}
 use Rattle.contour.proofs.Lowest.{three, first-exactly, second-exactly, third-exactly, of-three, less-exactly, enough-exactly, Early, fit-number}
-use Rattle.contour.proofs.Theorems.{grid-early}
+use Rattle.contour.proofs.Grids.{GridExact, grid-early, grid-exact}
 
 few≢fits : fit-is.Refused FewThresholds ≢ fit-is.Fits
 few≢fits e = let z : _≡_ {A = ℕ} 0 1 = cc in omega arith
@@ -28,7 +28,7 @@ fits≢no-pair e = let z : _≡_ {A = ℕ} 0 1 = cc in omega arith
 -- an answer against the first four numbers: 1 and 2 are the grid's, 3 is given where it fits and there are under two thresholds, and 4 where it fits, there are
 -- two or more, and k + 1 is no place among them
 pub record FitExact {Made : Type 0} (refuse : Refusal → Made) (answer : Made) (count dx dy thresholds k : ℕ) : Type 0 where
-  pub grid-refused-exactly : (why : Refusal) → refusalNumber why ≤ 2 → (gridFit count dx dy ≡ fit-is.Refused why) ↔ (answer ≡ refuse why)
+  pub grid-exactly : GridExact refuse answer count dx dy
   pub few-thresholds-exactly : ((gridFit count dx dy ≡ fit-is.Fits) × (thresholds < 2)) ↔ (answer ≡ refuse FewThresholds)
   pub no-pair-exactly : ((gridFit count dx dy ≡ fit-is.Fits) × (2 ≤ thresholds) × (thresholds ≤ suc k)) ↔ (answer ≡ refuse NoPair)
 
@@ -96,7 +96,7 @@ module _ (count dx dy thresholds k : ℕ) where
       → FitExact refuse answer count dx dy thresholds k
   unfolding bandFit
   fit-exact to = record {
-    grid-refused-exactly = λ why low. Iff·trans (grid-first thresholds k (gridFit count dx dy) why low) (to why (omega arith));
+    grid-exactly = grid-exact count dx dy (λ why low. Iff·trans (grid-first thresholds k (gridFit count dx dy) why low) (to why (omega arith)));
     few-thresholds-exactly =
         Iff·trans (Iff·and Iff·rfl (few-exactly thresholds k))
         (Iff·trans (behind thresholds k (gridFit count dx dy) (fit-is.Refused FewThresholds) early (λ why e. omega (arith, fit-number FewThresholds why e))) (to FewThresholds (omega arith)));

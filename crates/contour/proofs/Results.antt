@@ -12,6 +12,7 @@ use Rattle.grid.specs.declared.GridFit.{GridFit}
 use Rattle.grid.specs.declared.GridFit.the-variants as fit-is
 use Rattle.isoringbuilder.specs.Verdict.{Verdict, refused, passes, afterGrid}
 use Rattle.isoringbuilder.specs.Answers.{workAfter, outputAfter}
+use Rattle.isoringbuilder.specs.declared.SecondReport.the-variants as second-is
 use Rattle.isoringbuilder.specs.declared.Built.{Built}
 use Rattle.isoringbuilder.specs.declared.Built.the-variants as built-is
 use Rattle.contour.proofs.Lowest.{rooms, andThen, answerBy, Answers, Early, ReportExact, BuildExact, report-exact, build-exact, work-passes, passes-exactly}
@@ -141,3 +142,17 @@ module _ {Word : Type 0} {plan : Plan Word} {lines links : List ℕ} {points : L
         points-are = k .points-are ∙ rw (work, outputs);
         directory-is = k .directory-is ∙ rw (work, outputs);
       }
+
+-- ---- 5. the numbers of a second report
+
+module _ {S R H P s r h p : ℕ} {fit : GridFit} {openNeed linkNeed : ℕ} {lines links lines′ links′ : List ℕ} where
+  -- where a room is answered the fit passed, and it is the room that was to be given
+  pub room-given : Worked second-is.Refused (second-is.Room S R H P) fit openNeed linkNeed passes lines links (second-is.Room s r h p) lines′ links′
+      → (fit ≡ fit-is.Fits) × (S ≡ s) × (R ≡ r) × (H ≡ h) × (P ≡ p)
+  unfolding answerBy andThen
+  room-given k = by (workOf fit openNeed linkNeed lines links) refl (k .answers)
+    where
+      by : (v : Verdict) → workOf fit openNeed linkNeed lines links ≡ v → second-is.Room s r h p ≡ answerBy second-is.Refused (second-is.Room S R H P) (andThen v passes)
+          → (fit ≡ fit-is.Fits) × (S ≡ s) × (R ≡ r) × (H ≡ h) × (P ≡ p)
+      by (refused why) work e = absurd (let z : _≡_ {A = ℕ} 0 1 = cc in omega arith)
+      by passes work e = (work-passes fit (length lines) openNeed (length links) linkNeed .1 work .0, cc, cc, cc, cc)

@@ -1,32 +1,29 @@
--- What the contracts of the public face come to at one threshold: one result on each entry, each refusal exactly where it is the lowest that applies, exact room
--- filled to the last word, and the peak in the reports. The contracts are read as what a call over lent tables needs, answers and leaves. Assumes nothing.
-use mathlib.Core.Path.{_≡_, refl, sym, _∙_, subst}
+-- What the contracts of the public face come to at one threshold: one result on each entry, each refusal exactly where it is the lowest that applies, and exact
+-- room filled to the last word. The contracts are read as what a call over lent tables needs, answers and leaves. Assumes nothing.
+use mathlib.Core.Path.{_≡_, refl, sym, _∙_}
 use mathlib.Core.Logic.{_↔_}
 use mathlib.Core.Bool.{Bool}
 use mathlib.Core.List.{List}
-use Prim.Native.Nat.{ℕ, suc, _+_, _*_, _/_, _≤_}
+use Prim.Native.Nat.{ℕ}
 use native.Mathlib.Omega.{arith}
 use lib.Ieee.{Float}
 use lib.ListN.{length}
 use Rattle.error.specs.declared.Refusal.{Refusal}
-use Rattle.error.specs.declared.Refusal.the-variants.{BadSide, BadDimension}
 use Rattle.scope.specs.Limits.{recordStride}
 use Rattle.scope.specs.Terrain.{Sheet, atLeast, terrain}
 use Rattle.scope.specs.Drawing.{segmentCount, ringCount, ringsOf, peak}
-use Rattle.scope.specs.Pairs.{sharedPairs}
 use Rattle.scope.specs.Room.{openWords, linkWords, pointCount, pointWords, directoryWords}
 use Rattle.scope.specs.Smoothing.{Placing}
 use Rattle.scope.specs.Tables.{packedPoints, linePoints, bareRecords, contourRecords}
 use Rattle.laws.proofs.Edges.{Outside}
-use Rattle.laws.proofs.Laws.{the-peak-is-low, the-peak-is-highest, the-peak-is-reached}
 use Rattle.machine.proofs.Built.{packed-points-fill-their-room, records-fill-their-room}
-use Rattle.grid.specs.Grid.{badSide, badCount, gridFit}
+use Rattle.grid.specs.Grid.{gridFit}
 use Rattle.scan.specs.Report.{roomOf, reportFor, firstReport}
 use Rattle.grid.specs.declared.GridFit.{GridFit}
 use Rattle.grid.specs.declared.GridFit.the-variants as fit-is
 use Rattle.scan.specs.declared.FirstReport.the-variants as first-is
 use Rattle.scan.proofs.Samples.{terrain-outside}
-use Rattle.isoringbuilder.specs.Verdict.{Verdict, refused, passes, workVerdict, roomVerdict, outputVerdict}
+use Rattle.isoringbuilder.specs.Verdict.{passes, workVerdict, roomVerdict, outputVerdict}
 use Rattle.isoringbuilder.specs.Answers.{workAfter, outputAfter, reported, built, above, onEntry, onOutputs, SecondReported, RingsBuilt}
 use Rattle.isoringbuilder.specs.declared.SecondReport.{SecondReport}
 use Rattle.isoringbuilder.specs.declared.SecondReport.the-variants as second-is
@@ -36,31 +33,30 @@ use Rattle.contourbuilder.specs.Contours.{ContoursBuilt}
 use Rattle.contourbuilder.proofs.Lengths.{contour-length}
 use Rattle.plotting.proofs.Laws.{line-points-fill-their-room}
 use Rattle.linebuilder.specs.Lines.{LinesBuilt}
-use Rattle.contour.proofs.Lowest.{of-three, Early, fit-number, Answers, by-one, by-two, ReportExact}
+use Rattle.contour.proofs.Lowest.{Answers, by-one, by-two, ReportExact}
+use Rattle.contour.proofs.Grids.{GridExact, grid-early, grid-exact}
 use Rattle.contour.proofs.Results.{Worked, Plan, Constructed, one-worked, one-construction, Exact, worked-exact, constructed-exact, JustRoom, Filled, fills}
 
 -- the first report, area and contains answer what a definition gives for the entry: two such answers are equal
 pub one-answer : {Answer : Type 0} {given p q : Answer} → p ≡ given → q ≡ given → p ≡ q
 one-answer a b = a ∙ sym b
 
--- a grid is refused with number 1 or 2
-pub grid-early : (count dx dy most : ℕ) → 2 ≤ most → Early most (gridFit count dx dy)
-unfolding gridFit
-grid-early count dx dy most h =
-    of-three (Early most) (fit-is.Refused BadSide) (fit-is.Refused BadDimension) fit-is.Fits
-    (λ why e. omega (arith, fit-number BadSide why e))
-    (λ why e. omega (arith, fit-number BadDimension why e))
-    (λ why e. absurd (let z : _≡_ {A = ℕ} 0 1 = cc in omega arith))
-    (badSide dx dy) (badCount count dx dy)
-
 -- ---- 1. the first report
 
 -- a first report refuses as the fit does, and where that passes gives its room
-pub first-report-exactly : (fit : GridFit) (s h : ℕ) → ((why : Refusal) → (fit ≡ fit-is.Refused why) ↔ (reportFor fit (first-is.Room s h) ≡ first-is.Refused why)) × ((fit ≡ fit-is.Fits) ↔ (reportFor fit (first-is.Room s h) ≡ first-is.Room s h))
+pub report-for-exactly : (fit : GridFit) (s h : ℕ) → ((why : Refusal) → (fit ≡ fit-is.Refused why) ↔ (reportFor fit (first-is.Room s h) ≡ first-is.Refused why)) × ((fit ≡ fit-is.Fits) ↔ (reportFor fit (first-is.Room s h) ≡ first-is.Room s h))
 unfolding reportFor
-first-report-exactly fit-is.Fits s h = (λ why. (λ e. absurd (let z : _≡_ {A = ℕ} 0 1 = cc in omega arith), λ e. absurd (let z : _≡_ {A = ℕ} 0 1 = cc in omega arith)), (λ e. refl, λ e. refl))
-first-report-exactly (fit-is.Refused f) s h =
+report-for-exactly fit-is.Fits s h = (λ why. (λ e. absurd (let z : _≡_ {A = ℕ} 0 1 = cc in omega arith), λ e. absurd (let z : _≡_ {A = ℕ} 0 1 = cc in omega arith)), (λ e. refl, λ e. refl))
+report-for-exactly (fit-is.Refused f) s h =
     (λ why. (λ e. cc, λ e. cc), (λ e. absurd (let z : _≡_ {A = ℕ} 0 1 = cc in omega arith), λ e. absurd (let z : _≡_ {A = ℕ} 0 1 = cc in omega arith)))
+
+-- numbers 1 and 2 in the first report, and S and H exactly where the grid fits
+pub first-report-exactly : (values : List Float) (threshold : Float) (dx dy : ℕ) → GridExact first-is.Refused (firstReport values threshold dx dy) (length values) dx dy
+    × ((gridFit (length values) dx dy ≡ fit-is.Fits) ↔ (firstReport values threshold dx dy ≡ first-is.Room (segmentCount (above values threshold dx dy) dx dy) (peak (above values threshold dx dy) dx dy)))
+unfolding firstReport roomOf
+first-report-exactly values threshold dx dy =
+    let exactly = report-for-exactly (gridFit (length values) dx dy) (segmentCount (above values threshold dx dy) dx dy) (peak (above values threshold dx dy) dx dy) in
+    (grid-exact (length values) dx dy (λ why low. exactly .0 why), exactly .1)
 
 -- ---- 2. the second report
 
@@ -77,7 +73,7 @@ module _ (values : List Float) (threshold : Float) (dx dy : ℕ) (lines links : 
   abbrev sheet : Sheet
   sheet = terrain (atLeast threshold) values dx dy
 
-  second-worked : {p : SecondReport} {lines′ links′ : List ℕ} → SecondReported values threshold dx dy lines links p lines′ links′
+  pub second-worked : {p : SecondReport} {lines′ links′ : List ℕ} → SecondReported values threshold dx dy lines links p lines′ links′
       → Worked second-is.Refused (roomAt values threshold dx dy) (gridFit (length values) dx dy) (openWords dx (peak sheet dx dy)) (linkWords (segmentCount sheet dx dy)) passes lines links p lines′ links′
   unfolding workVerdict reported
   second-worked k = record {
@@ -92,8 +88,11 @@ module _ (values : List Float) (threshold : Float) (dx dy : ℕ) (lines links : 
 
   -- numbers 1, 2, 5 and 6 exactly
   pub second-report-exactly : {p : SecondReport} {lines′ links′ : List ℕ} → SecondReported values threshold dx dy lines links p lines′ links′
-      → ReportExact second-is.Refused (roomAt values threshold dx dy) p (gridFit (length values) dx dy) (length lines) (openWords dx (peak sheet dx dy)) (length links) (linkWords (segmentCount sheet dx dy))
-  second-report-exactly k = worked-exact (reports _ _ _ _) (grid-early (length values) dx dy 4 (omega arith)) (second-worked k)
+      → GridExact second-is.Refused p (length values) dx dy
+      × ReportExact second-is.Refused (roomAt values threshold dx dy) p (gridFit (length values) dx dy) (length lines) (openWords dx (peak sheet dx dy)) (length links) (linkWords (segmentCount sheet dx dy))
+  second-report-exactly k =
+      let exactly = worked-exact (reports _ _ _ _) (grid-early (length values) dx dy 4 (omega arith)) (second-worked k) in
+      (grid-exact (length values) dx dy (λ why low. exactly .work-exact .fit-refused-exactly why (omega arith)), exactly)
 
 -- ---- 3. the builds
 
@@ -150,6 +149,14 @@ module _ (values : List Float) (threshold : Float) (dx dy : ℕ) where
     directory-is = d;
   }
 
+  -- numbers 1, 2 and 5 to 8 of such a build exactly
+  drawn-exactly : {Word : Type 0} {packed : List Word} {records lines links : List ℕ} {points : List Word} {directory : List ℕ} {answer : Built} {lines′ links′ : List ℕ} {points′ : List Word} {directory′ : List ℕ}
+      → Constructed (drawnPlan values threshold dx dy packed records) lines links points directory answer lines′ links′ points′ directory′
+      → GridExact built-is.Refused answer (length values) dx dy × Exact (drawnPlan values threshold dx dy packed records) lines links points directory answer
+  drawn-exactly k =
+      let exactly = constructed-exact (grid-early (length values) dx dy 4 (omega arith)) k in
+      (grid-exact (length values) dx dy (λ why low. exactly .work-exact .fit-refused-exactly why (omega arith)), exactly)
+
   module _ (lines links points directory : List ℕ) where
     rings-constructed : {answer : Built} {lines′ links′ points′ directory′ : List ℕ} → RingsBuilt values threshold dx dy lines links points directory answer lines′ links′ points′ directory′
         → Constructed (ringsPlan values threshold dx dy) lines links points directory answer lines′ links′ points′ directory′
@@ -170,12 +177,12 @@ module _ (values : List Float) (threshold : Float) (dx dy : ℕ) where
 
     -- numbers 1, 2 and 5 to 8 exactly
     pub rings-exactly : {answer : Built} {lines′ links′ points′ directory′ : List ℕ} → RingsBuilt values threshold dx dy lines links points directory answer lines′ links′ points′ directory′
-        → Exact (ringsPlan values threshold dx dy) lines links points directory answer
-    rings-exactly k = constructed-exact (grid-early (length values) dx dy 4 (omega arith)) (rings-constructed k)
+        → GridExact built-is.Refused answer (length values) dx dy × Exact (ringsPlan values threshold dx dy) lines links points directory answer
+    rings-exactly k = drawn-exactly (rings-constructed k)
 
     pub contours-exactly : {answer : Built} {lines′ links′ points′ directory′ : List ℕ} → ContoursBuilt values threshold dx dy lines links points directory answer lines′ links′ points′ directory′
-        → Exact (contoursPlan values threshold dx dy) lines links points directory answer
-    contours-exactly k = constructed-exact (grid-early (length values) dx dy 4 (omega arith)) (contours-constructed k)
+        → GridExact built-is.Refused answer (length values) dx dy × Exact (contoursPlan values threshold dx dy) lines links points directory answer
+    contours-exactly k = drawn-exactly (contours-constructed k)
 
     -- lent just the room, a grid that fits gives all its rings, its points and records are the whole outputs, and both work tables are all zero
     module _ (fits : gridFit (length values) dx dy ≡ fit-is.Fits) {answer : Built} {lines′ links′ points′ directory′ : List ℕ} where
@@ -198,44 +205,9 @@ module _ (values : List Float) (threshold : Float) (dx dy : ℕ) where
     one-lines a b = one-construction (lines-constructed a) (lines-constructed b)
 
     pub lines-exactly : {answer : Built} {lines′ links′ : List ℕ} {points′ : List Float} {directory′ : List ℕ} → LinesBuilt values threshold dx dy smooth q lines links points directory answer lines′ links′ points′ directory′
-        → Exact (linesPlan values threshold dx dy smooth q) lines links points directory answer
-    lines-exactly k = constructed-exact (grid-early (length values) dx dy 4 (omega arith)) (lines-constructed k)
+        → GridExact built-is.Refused answer (length values) dx dy × Exact (linesPlan values threshold dx dy smooth q) lines links points directory answer
+    lines-exactly k = drawn-exactly (lines-constructed k)
 
     pub lines-exact-room : gridFit (length values) dx dy ≡ fit-is.Fits → {answer : Built} {lines′ links′ : List ℕ} {points′ : List Float} {directory′ : List ℕ} → JustRoom (linesPlan values threshold dx dy smooth q) lines links points directory
         → LinesBuilt values threshold dx dy smooth q lines links points directory answer lines′ links′ points′ directory′ → Filled (linesPlan values threshold dx dy smooth q) answer lines′ links′ points′ directory′
     lines-exact-room fits just k = fills fits (line-points-fill-their-room A out smooth values threshold q) (records-fill-their-room A out) just (lines-constructed k)
-
-  -- ---- 4. the peak in the reports
-
-  -- twice h is the largest number of shared pairs after any cell, and h is at most (dx + 2) / 2
-  pub record LargestHalf (h : ℕ) : Type 0 where
-    pub no-cell-has-more : (r c : ℕ) → r ≤ dy → c ≤ dx → sharedPairs (terrain (atLeast threshold) values dx dy) dx r (suc c) ≤ 2 * h
-    pub a-cell-has-as-many : (r : ℕ) × (c : ℕ) × (r ≤ dy) × (c ≤ dx) × (sharedPairs (terrain (atLeast threshold) values dx dy) dx r (suc c) ≡ 2 * h)
-    pub is-low : h ≤ (dx + 2) / 2
-
-  the-peak-is : LargestHalf (peak A dx dy)
-  the-peak-is =
-      record { no-cell-has-more = the-peak-is-highest A out; a-cell-has-as-many = the-peak-is-reached A out; is-low = the-peak-is-low A out }
-
-  -- a grid that fits is answered its segments and its peak
-  pub first-report-answers : gridFit (length values) dx dy ≡ fit-is.Fits → firstReport values threshold dx dy ≡ first-is.Room (segmentCount A dx dy) (peak A dx dy)
-  unfolding firstReport reportFor roomOf
-  first-report-answers fits = rw fits
-
-  -- the peak that the first report answers
-  pub first-report-peak : (s h : ℕ) → firstReport values threshold dx dy ≡ first-is.Room s h → LargestHalf h
-  unfolding firstReport reportFor roomOf
-  first-report-peak s h = by (gridFit (length values) dx dy)
-    where
-      by : (fit : GridFit) → reportFor fit (first-is.Room (segmentCount A dx dy) (peak A dx dy)) ≡ first-is.Room s h → LargestHalf h
-      by fit-is.Fits e = let same : peak A dx dy ≡ h = cc in subst LargestHalf same the-peak-is
-      by (fit-is.Refused why) e = absurd (let z : _≡_ {A = ℕ} 0 1 = cc in omega arith)
-
-  -- the peak that the second report answers
-  pub second-report-peak : (lines links : List ℕ) {lines′ links′ : List ℕ} (s r h p : ℕ) → SecondReported values threshold dx dy lines links (second-is.Room s r h p) lines′ links′ → LargestHalf h
-  unfolding reported
-  second-report-peak lines links s r h p k = by (workVerdict A (length values) dx dy (length lines) (length links)) (k .answers)
-    where
-      by : (v : Verdict) → second-is.Room s r h p ≡ reported v A dx dy → LargestHalf h
-      by (refused why) e = absurd (let z : _≡_ {A = ℕ} 0 1 = cc in omega arith)
-      by passes e = let same : peak A dx dy ≡ h = cc in subst LargestHalf same the-peak-is
