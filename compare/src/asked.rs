@@ -1,7 +1,8 @@
-//! What an entry is asked: a terrain, for a band a list of thresholds, for lines how they are drawn.
+//! What an entry is asked: a terrain, for a band a list of thresholds, for lines how they are drawn. The tables that
+//! are lent for the answer are not known here.
 
-use crate::entries::Kind;
 use crate::guarded::Guarded;
+use crate::kinds::Kind;
 use crate::lines::Pen;
 use crate::rings::{Grid, Pair};
 

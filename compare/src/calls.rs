@@ -45,7 +45,7 @@ fn compare_entries(
     drawing: Option<&Drawing>,
     rooms: impl Fn(&mut Random, Entry) -> Vec<Room>,
 ) {
-    for entry in asked.kind.entries() {
+    for entry in Entry::all_of(asked.kind) {
         for room in rooms(random, entry) {
             compare_call(tally, random, entry, asked, room, drawing);
         }

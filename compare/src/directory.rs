@@ -3,8 +3,8 @@
 //! `contains`, unless that takes too long. The two have to agree.
 
 use crate::asked::Asked;
-use crate::entries::Kind;
 use crate::ffi::Answer;
+use crate::kinds::Kind;
 use crate::oracle;
 use crate::rings::Ring;
 use contour::ContourBuilder;

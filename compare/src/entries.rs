@@ -1,29 +1,11 @@
-//! The entries that draw, and their calls with what they are asked and the tables that they are lent.
+//! The entries that draw, and their calls with what they are asked and the tables that they are lent. This stands
+//! above `kinds`, `points`, `lent` and `asked`, none of which knows an entry.
 
 use crate::asked::Asked;
 use crate::declared::*;
+use crate::kinds::Kind;
 use crate::lent::{Lent, Table, DIRECTORY, LINES, LINKS, PEAK, POINTS, RINGS, SEGMENTS};
 use crate::rings::Grid;
-
-/// What is drawn.
-#[derive(Clone, Copy, PartialEq)]
-pub enum Kind {
-    Rings,
-    Contours,
-    Bands,
-    Lines,
-}
-
-impl Kind {
-    /// Its entries. The reports of contours and lines are those of rings.
-    pub fn entries(self) -> impl Iterator<Item = Entry> {
-        let steps: &[Step] = match self {
-            Kind::Contours | Kind::Lines => &[Step::Build],
-            _ => &[Step::FirstReport, Step::SecondReport, Step::Build],
-        };
-        steps.iter().map(move |&step| Entry { kind: self, step })
-    }
-}
 
 #[derive(Clone, Copy, PartialEq)]
 pub enum Step {
@@ -39,6 +21,15 @@ pub struct Entry {
 }
 
 impl Entry {
+    /// The entries of a kind. The reports of contours and lines are those of rings.
+    pub fn all_of(kind: Kind) -> impl Iterator<Item = Entry> {
+        let steps: &[Step] = match kind {
+            Kind::Contours | Kind::Lines => &[Step::Build],
+            _ => &[Step::FirstReport, Step::SecondReport, Step::Build],
+        };
+        steps.iter().map(move |&step| Entry { kind, step })
+    }
+
     /// The tables that it is lent, in the order of their refusals.
     pub fn tables(self) -> &'static [Table] {
         match self.step {

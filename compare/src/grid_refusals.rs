@@ -4,7 +4,7 @@
 use crate::asked::Asked;
 use crate::calls::compare_rooms;
 use crate::drawing::Drawing;
-use crate::entries::Kind;
+use crate::kinds::Kind;
 use crate::lent::Room;
 use crate::lines::random_pen;
 use crate::random::Random;

@@ -1,8 +1,9 @@
 //! What a call is lent to write into. All of it stands in one sheet of words, table beside table, with guard
-//! words before, between and behind them, and is compared whole; the points stand in another.
+//! words before, between and behind them, and is compared whole; the points stand in another. What a call is asked,
+//! and which tables it takes, is not known here.
 
-use crate::entries::Kind;
 use crate::guarded::GUARDS;
+use crate::kinds::Kind;
 use crate::points::Points;
 use crate::random::Random;
 use std::ops::Range;

@@ -16,6 +16,7 @@ mod ffi;
 mod geojson;
 mod grid_refusals;
 mod guarded;
+mod kinds;
 mod lent;
 mod line_answers;
 mod line_checks;
@@ -46,7 +47,7 @@ mod text_checks;
 mod declared;
 
 use calls::compare_asked;
-use entries::Kind;
+use kinds::Kind;
 use program::Program;
 use random::Random;
 use std::process::ExitCode;

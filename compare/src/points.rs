@@ -1,6 +1,7 @@
-//! Points as table words: 16 bits each, or for lines the bit patterns of floats.
+//! Points as table words: 16 bits each, or for lines the bit patterns of floats. Which of the two, the kind says;
+//! tables and calls are not known here.
 
-use crate::entries::Kind;
+use crate::kinds::Kind;
 use std::ops::Range;
 
 #[derive(Clone)]

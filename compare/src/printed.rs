@@ -5,8 +5,8 @@
 
 use crate::asked::Asked;
 use crate::drawing::Drawing;
-use crate::entries::Kind;
 use crate::ffi::Answer;
+use crate::kinds::Kind;
 use crate::lines::Pen;
 use crate::oracle;
 use crate::rings::{Grid, Pair};

@@ -3,7 +3,7 @@
 
 use crate::asked::Asked;
 use crate::drawing::Drawing;
-use crate::entries::Kind;
+use crate::kinds::Kind;
 use crate::program_inputs::{
     self as inputs, ENDLESS, EXAMPLE, EXAMPLE_TEXT, FAULTY_INPUTS, GOOD_INPUTS,
 };

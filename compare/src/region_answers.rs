@@ -4,7 +4,7 @@
 use crate::asked::Asked;
 use crate::counts::Counts;
 use crate::directory::{crate_polygons, directory};
-use crate::entries::Kind;
+use crate::kinds::Kind;
 use crate::random::Random;
 use crate::rings::{Grid, Pair, Ring};
 use std::fmt::Write;

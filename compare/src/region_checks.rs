@@ -3,7 +3,7 @@
 use crate::asked::Asked;
 use crate::calls::compare_exact;
 use crate::drawing::Drawing;
-use crate::entries::Kind;
+use crate::kinds::Kind;
 use crate::nested::{
     cups, diamonds, dots, frames, peaks_beside_holes, plate, spiral, three_valued,
 };

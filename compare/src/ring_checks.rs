@@ -4,7 +4,7 @@ use crate::asked::Asked;
 use crate::calls::{compare_asked, compare_exact};
 use crate::counts::peak_by_lookup;
 use crate::drawing::Drawing;
-use crate::entries::Kind;
+use crate::kinds::Kind;
 use crate::random::Random;
 use crate::rings::{flat_grid, random_grid, small_grids, Grid};
 use crate::shapes::{self, LONGEST_SIDE};

@@ -4,8 +4,8 @@
 use crate::asked::Asked;
 use crate::directory::{HOLE, NOBODY, POLYGON};
 use crate::drawing::Drawing;
-use crate::entries::Kind;
 use crate::exact::{LARGEST, MOST_POINTS};
+use crate::kinds::Kind;
 use crate::random::Random;
 use crate::ring_sets::RingSet;
 use crate::rings::{random_grid, random_pair};
