@@ -14,6 +14,7 @@ pub struct Tally {
     float_asked: u64,
     float_differs: u64,
     notes: Vec<String>,
+    lacks: bool,
 }
 
 impl Tally {
@@ -39,6 +40,12 @@ impl Tally {
         self.notes.push(line.to_string());
     }
 
+    /// A part that is lacking and was not compared, and the line that says so.
+    pub fn lacks(&mut self, line: &str) {
+        self.note(line);
+        self.lacks = true;
+    }
+
     /// How the crate's float test fares against the exact one on slopes that no cell draws. Document 01
     /// allows a difference there, so it is told and not counted.
     pub fn float_test(&mut self, exact: Answer, floats: Answer) {
@@ -54,8 +61,9 @@ impl Tally {
         println!("{name}: {compared} compared, {differ} differ");
     }
 
-    /// Prints the closing lines; true when something was compared and nothing differs.
-    pub fn close(&self) -> bool {
+    /// Prints the closing lines; true when something was compared and nothing differs, and no part is lacking
+    /// unless parts may lack.
+    pub fn close(&self, parts_may_lack: bool) -> bool {
         println!(
             "not counted: on slopes that no cell draws the crate's float test differs from the exact \
              one in {} of {} calls",
@@ -64,8 +72,14 @@ impl Tally {
         for note in &self.notes {
             println!("{note}");
         }
+        let whole = parts_may_lack || !self.lacks;
+        if !whole {
+            println!(
+                "with a part lacking the run fails, unless it is called with --parts-may-lack"
+            );
+        }
         println!("{} compared, {} differ", self.compared, self.differ);
-        self.compared > 0 && self.differ == 0
+        self.compared > 0 && self.differ == 0 && whole
     }
 }
 
