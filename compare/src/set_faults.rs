@@ -312,6 +312,7 @@ fn drawn_set(random: &mut Random) -> RingSet {
     RingSet::of(&drawing)
 }
 
+/// One change. No more words are withheld than stand there, which may be one.
 fn damage(random: &mut Random, set: &mut RingSet) {
     let rings = set.rings as usize;
     let records = rings.min(set.directory.len() / 4);
@@ -324,7 +325,7 @@ fn damage(random: &mut Random, set: &mut RingSet) {
     let owner = random.below(rings + 1) as u32;
     let words = &mut set.directory[record..record + 4];
     match random.below(10) {
-        0 => set.withheld = [random.below(3), 0],
+        0 => set.withheld = [random.below(3).min(set.points.len()), 0],
         1 => set.withheld = [0, random.below(5)],
         2 => set.rings = random.between(rings - 1, rings + 1) as u32,
         3 => {
