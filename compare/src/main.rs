@@ -1,6 +1,6 @@
 //! Asks the crate and our static library the same questions and counts the answers that differ. What is
-//! expected comes from the crate or from `exact`, `counts`, `ring_sets`, `geojson` and `program_inputs`, which are
-//! document 01 written down once more. Here stands what the command line asks for; `parts` has the parts.
+//! expected comes from the crate or from `exact`, `counts`, `ring_sets`, `geojson`, `word_text` and `program_inputs`,
+//! which are document 01 written down once more. Here stands what the command line asks for; `parts` has the parts.
 
 mod answers;
 mod area_checks;
@@ -41,6 +41,7 @@ mod shapes;
 mod tally;
 mod text_calls;
 mod text_checks;
+mod word_text;
 
 /// The functions of our library, declared once for all who call it from Rust.
 #[allow(dead_code)]

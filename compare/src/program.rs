@@ -8,7 +8,7 @@ use crate::program_inputs::{
     self as inputs, ENDLESS, EXAMPLE, EXAMPLE_TEXT, FAULTY_INPUTS, GOOD_INPUTS,
 };
 use crate::random::Random;
-use crate::ring_sets::crate_text;
+use crate::ring_sets::drawn_text;
 use crate::tally::Tally;
 use std::io::{Read, Write};
 use std::process::{Child, ChildStdin, Command, Stdio};
@@ -191,7 +191,7 @@ fn expected(input: &[u8]) -> Vec<u8> {
         None => REFUSED.to_vec(),
         Some(grid) => {
             let drawing = Drawing::of(&Asked::new(Kind::Contours, &grid));
-            let mut text = crate_text(&drawing.expect("a question that passes"));
+            let mut text = drawn_text(&drawing.expect("a question that passes"));
             text.push(b'\n');
             text
         }

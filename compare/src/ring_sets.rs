@@ -1,5 +1,6 @@
 //! Ring sets, as the writer reads them: points, a directory and the number of rings stated. What document 01 says
-//! of one, number 9 and the text, is written down here from its records, and the text from the crate's polygons.
+//! of one is written down here from its records: number 9, and which polygons they make. Their text is written by two
+//! writers, `word_text` and `geojson`, and the latter also writes that of the crate's own polygons.
 
 use crate::directory::{HOLE, NOBODY, POLYGON};
 use crate::drawing::Drawing;
@@ -7,6 +8,7 @@ use crate::exact::{LARGEST, MOST_POINTS};
 use crate::geojson;
 use crate::oracle::halved;
 use crate::points::Points;
+use crate::word_text;
 use crate::Pt;
 use geo_types::LineString;
 use std::iter::once;
@@ -104,25 +106,50 @@ impl RingSet {
         self.lent_points().get(first..first + count)
     }
 
-    /// The text of a set without fault: polygons by record number, each followed by its holes by number.
-    pub fn text(&self) -> Option<Vec<u8>> {
+    /// The polygons of a set without fault, by record number, each its own ring and then its holes by number.
+    fn polygons(&self) -> Option<Vec<Vec<&[u16]>>> {
         if self.is_faulty() {
             return None;
         }
         let records = self.records();
         let numbered = (0..).zip(&records);
         let polygons = numbered.filter(|(_, record)| record[2] == POLYGON);
-        Some(geojson::text(polygons.map(|(number, polygon)| {
+        let rings = polygons.map(|(number, polygon)| {
             let holes = records.iter().filter(|r| r[2..] == [HOLE, number]);
             let rings = once(polygon).chain(holes).map(|record| self.ring(record));
-            let rings: Vec<Vec<Pt>> = rings.flatten().map(halved).collect();
-            rings.into_iter().map(coordinates)
-        })))
+            rings.flatten().collect()
+        });
+        Some(rings.collect())
+    }
+
+    /// The text of a set without fault, from its words; from floats it has to be the same.
+    pub fn text(&self) -> Option<Vec<u8>> {
+        let polygons = self.polygons()?;
+        let text = word_text::text(&polygons);
+        let floats = polygons.iter().map(|rings| {
+            let rings = rings.iter();
+            rings.map(|ring| coordinates(halved(ring)))
+        });
+        assert!(
+            geojson::text(floats) == text,
+            "the text from floats is not that from words"
+        );
+        Some(text)
     }
 }
 
-/// The crate's polygons of a contour or band as text.
-pub fn crate_text(drawing: &Drawing) -> Vec<u8> {
+/// The text of a contour or band, from the crate's polygons; from the records of the directory it has to be the same.
+pub fn drawn_text(drawing: &Drawing) -> Vec<u8> {
+    let text = crate_text(drawing);
+    assert!(
+        RingSet::of(drawing).text().as_ref() == Some(&text),
+        "the text of the records is not that of the crate's polygons"
+    );
+    text
+}
+
+/// The crate's polygons as text.
+fn crate_text(drawing: &Drawing) -> Vec<u8> {
     geojson::text(drawing.polygons.iter().map(|polygon| {
         let rings = once(polygon.exterior()).chain(polygon.interiors());
         rings.map(|LineString(points)| coordinates(points.clone()))

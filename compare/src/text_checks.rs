@@ -5,23 +5,18 @@ use crate::directory::{HOLE, NOBODY, POLYGON};
 use crate::drawing::Drawing;
 use crate::exact::{LARGEST, MOST_POINTS};
 use crate::random::Random;
-use crate::ring_sets::{crate_text, RingSet};
+use crate::ring_sets::{drawn_text, RingSet};
 use crate::tally::Tally;
 use crate::text_calls::{compare_set, Expected};
 
 /// How many random sets a round has.
 const SETS: usize = 20_000;
 
-/// A contour or band: the crate's polygons are written, and so are the records; the two texts have to be the same.
+/// A contour or band.
 pub fn compare_drawn(tally: &mut Tally, random: &mut Random, asked: &Asked) -> Drawing {
     let drawing = Drawing::of(asked).expect("a question that passes");
-    let set = RingSet::of(&drawing);
-    let text = Some(crate_text(&drawing));
-    assert!(
-        set.text() == text,
-        "the text of the records is not that of the crate's polygons"
-    );
-    compare_set(tally, random, &set, Expected::of(&text));
+    let (set, text) = (RingSet::of(&drawing), drawn_text(&drawing));
+    compare_set(tally, random, &set, Expected::Text(&text));
     drawing
 }
 
