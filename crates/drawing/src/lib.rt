@@ -1,6 +1,12 @@
 // One cell of a grid, drawn over the open table and the link table by its number. The tables may be of any length and hold anything: every step is total, as the
 // table machine is, which each contract cites.
+use cells::LEFT;
+use cells::RIGHT;
+use cells::Stroke;
+use cells::TOP;
 use cells::point_index;
+use cells::stroke_at;
+use lines::Entry;
 use lines::Progress;
 use lines::append;
 use lines::connect;
@@ -9,7 +15,9 @@ use lines::prepend;
 use lines::start;
 ghost use mathlib.Core.Path.{_≡_};
 ghost use Prim.Native.Nat.{_+_, _-_, _^_, _<_};
-ghost use Rattle.drawing.specs.Values.{Within, pointsOf, runOf, numberDrawn};
+ghost use Rattle.machine.specs.Machine.{sideWord};
+ghost use Rattle.lines.specs.Values.{edgesOf};
+ghost use Rattle.drawing.specs.Values.{Within, pointsOf, runOf, numberDrawn, sideOf, pointAt, isMet, lineAt, strokeOf, strokeDrawn};
 
 // How far the pass has come: the progress of stitching, and the number of the next link.
 pub struct Run {
@@ -47,9 +55,96 @@ fn points_of(dx: u32, c: u32, r: u32) -> Points
     }
 }
 
-// The cell (`c`, `r`), whose number this is: the strokes of the case table, one or two, each by the rule that its sides call for. A line may end or start at
-// the left and the top, and each stroke meets the lines that the frontier has there before the first is drawn. The caller sees that the numbers of two links
-// more fit.
+// The index of the point on a side.
+fn point_at(at: Points, side: u8) -> u32
+    ensures { λ r. ⌜ r ≡ pointAt at (sideOf side) ⌝ }
+{
+    match side {
+        LEFT => at.left,
+        RIGHT => at.right,
+        TOP => at.top,
+        _ => at.bottom,
+    }
+}
+
+// Whether a line may end or start on a side before the cell is drawn: on the left and the top.
+fn meets(side: u8) -> bool
+    ensures { λ r. ⌜ r ≡ isMet (sideOf side) ⌝ }
+{
+    match side {
+        LEFT => true,
+        TOP => true,
+        _ => false,
+    }
+}
+
+// The slot of the line on a side that has one.
+fn line_at(met: Entry, side: u8) -> u32
+    ensures { λ r. ⌜ r ≡ lineAt (edgesOf met) (sideOf side) ⌝ }
+{
+    match side {
+        LEFT => met.left,
+        _ => met.top,
+    }
+}
+
+// The frontier word of a side of a cell in column `c`.
+fn word_at(dx: u32, c: u32, side: u8) -> usize
+    ensures { λ r. ⌜ r ≡ sideWord dx c (sideOf side) ⌝ }
+{
+    match side {
+        LEFT => dx as usize + 1,
+        RIGHT => dx as usize + 1,
+        _ => c as usize,
+    }
+}
+
+// A stroke of a cell in column `c`, drawn as the next link by the rule that its sides call for: by whether a line may end where it starts, and whether one may
+// start where it ends.
+fn draw_stroke(
+    lines: &mut [u32],
+    links: &mut [u32],
+    before: Run,
+    dx: u32,
+    c: u32,
+    met: Entry,
+    at: Points,
+    stroke: Stroke,
+) -> Run
+    requires { ⌜ before .next + 1 < 2 ^ 32 ⌝ }
+    ensures { λ run. ⌜ runOf (now (lines .exit)) (now (links .exit)) run
+        ≡ strokeDrawn dx c (edgesOf met) at (runOf (now (lines .entry)) (now (links .entry)) before) (strokeOf stroke) ⌝ }
+{
+    let p = before.progress;
+    let k = before.next;
+    let next = k + 1;
+    let from = stroke.from;
+    let to = stroke.to;
+    let s = point_at(at, from);
+    let e = point_at(at, to);
+    let f = line_at(met, from);
+    let g = line_at(met, to);
+    let ws = word_at(dx, c, from);
+    let we = word_at(dx, c, to);
+    if meets(from) {
+        if meets(to) {
+            let progress = connect(lines, links, p, dx, k, s, f, g);
+            return Run { progress, next };
+        }
+        let progress = append(lines, links, p, dx, k, s, f, e, we);
+        return Run { progress, next };
+    }
+    if meets(to) {
+        let progress = prepend(lines, links, p, dx, k, s, g, ws);
+        return Run { progress, next };
+    }
+    let progress = start(lines, links, p, dx, k, s, e, ws, we);
+    Run { progress, next }
+}
+
+// The cell (`c`, `r`), whose number this is: the strokes of the case table, one or two. Each meets the lines that the frontier has at the left and the top
+// before the first is drawn. An arm names its row, so that the compiler knows the strokes there, and a cell takes one branch. The caller sees that the numbers
+// of two links more fit.
 pub fn draw_cell(
     lines: &mut [u32],
     links: &mut [u32],
@@ -64,42 +159,29 @@ pub fn draw_cell(
     ensures { λ run. ⌜ runOf (now (lines .exit)) (now (links .exit)) run
         ≡ numberDrawn dx (runOf (now (lines .entry)) (now (links .entry)) before) number c r ⌝ }
 {
-    let p = before.progress;
-    let k = before.next;
-    let link = k + 1;
-    let after_two = k + 2;
     let met = entry_of(lines, dx, c);
     let at = points_of(dx, c, r);
-    let column = c as usize;
-    let edge = dx as usize + 1;
-    let mut next = link;
-    let progress = match number {
-        1 => prepend(lines, links, p, dx, k, at.bottom, met.left, column),
-        2 => start(lines, links, p, dx, k, at.right, at.bottom, edge, column),
-        3 => prepend(lines, links, p, dx, k, at.right, met.left, edge),
-        4 => append(lines, links, p, dx, k, at.top, met.top, at.right, edge),
+    match number {
+        1 => draw_stroke(lines, links, before, dx, c, met, at, stroke_at(1, 0)),
+        2 => draw_stroke(lines, links, before, dx, c, met, at, stroke_at(2, 0)),
+        3 => draw_stroke(lines, links, before, dx, c, met, at, stroke_at(3, 0)),
+        4 => draw_stroke(lines, links, before, dx, c, met, at, stroke_at(4, 0)),
         5 => {
-            let q = prepend(lines, links, p, dx, k, at.bottom, met.left, column);
-            next = after_two;
-            append(lines, links, q, dx, link, at.top, met.top, at.right, edge)
+            let one = draw_stroke(lines, links, before, dx, c, met, at, stroke_at(5, 0));
+            draw_stroke(lines, links, one, dx, c, met, at, stroke_at(5, 1))
         }
-        6 => append(lines, links, p, dx, k, at.top, met.top, at.bottom, column),
-        7 => connect(lines, links, p, dx, k, at.top, met.top, met.left),
-        8 => connect(lines, links, p, dx, k, at.left, met.left, met.top),
-        9 => prepend(lines, links, p, dx, k, at.bottom, met.top, column),
+        6 => draw_stroke(lines, links, before, dx, c, met, at, stroke_at(6, 0)),
+        7 => draw_stroke(lines, links, before, dx, c, met, at, stroke_at(7, 0)),
+        8 => draw_stroke(lines, links, before, dx, c, met, at, stroke_at(8, 0)),
+        9 => draw_stroke(lines, links, before, dx, c, met, at, stroke_at(9, 0)),
         10 => {
-            let q = connect(lines, links, p, dx, k, at.left, met.left, met.top);
-            next = after_two;
-            start(lines, links, q, dx, link, at.right, at.bottom, edge, column)
+            let one = draw_stroke(lines, links, before, dx, c, met, at, stroke_at(10, 0));
+            draw_stroke(lines, links, one, dx, c, met, at, stroke_at(10, 1))
         }
-        11 => prepend(lines, links, p, dx, k, at.right, met.top, edge),
-        12 => append(lines, links, p, dx, k, at.left, met.left, at.right, edge),
-        13 => start(lines, links, p, dx, k, at.bottom, at.right, column, edge),
-        14 => append(lines, links, p, dx, k, at.left, met.left, at.bottom, column),
-        _ => {
-            next = k;
-            p
-        }
-    };
-    Run { progress, next }
+        11 => draw_stroke(lines, links, before, dx, c, met, at, stroke_at(11, 0)),
+        12 => draw_stroke(lines, links, before, dx, c, met, at, stroke_at(12, 0)),
+        13 => draw_stroke(lines, links, before, dx, c, met, at, stroke_at(13, 0)),
+        14 => draw_stroke(lines, links, before, dx, c, met, at, stroke_at(14, 0)),
+        _ => before,
+    }
 }
