@@ -10,3 +10,4 @@ pub mod Reported
 pub mod Joined
 pub mod Checked
 pub mod Texts
+pub mod Once

@@ -1,0 +1,26 @@
+-- The text of what contours and isobands leave has each ring once: the set passes number 9, and so it is a law of `readable`. Assumes nothing.
+use mathlib.Core.Path.{_≡_}
+use mathlib.Core.List.{List}
+use Prim.Native.Nat.{ℕ}
+use native.Mathlib.Omega.{arith}
+use lib.Ieee.{Float}
+use Rattle.scope.specs.Limits.{noOwner}
+use Rattle.readable.proofs.Pieces.{EachRingOnce, each-ring-once}
+use Rattle.isoringbuilder.specs.declared.Built.{Built}
+use Rattle.isoringbuilder.specs.declared.Built.the-variants as built-is
+use Rattle.bands.specs.Bands.{BandBuilt}
+use Rattle.contourbuilder.specs.Contours.{ContoursBuilt}
+use Rattle.contour.proofs.Checked.{Checked, contours-checked, isobands-checked}
+
+once : {points directory : List ℕ} {n : ℕ} → Checked points directory n → EachRingOnce points directory n
+unfolding noOwner
+once {points} {directory} {n} k = each-ring-once points directory n (omega (arith, k .few)) (k .passes-nine)
+
+module _ {lines links points directory : List ℕ} {answer : Built} {lines′ links′ points′ directory′ : List ℕ} {n : ℕ} (is : answer ≡ built-is.Rings n) (dx dy : ℕ) where
+  pub contours-text-has-each-ring-once : (values : List Float) (threshold : Float) → ContoursBuilt values threshold dx dy lines links points directory answer lines′ links′ points′ directory′
+      → EachRingOnce points′ directory′ n
+  contours-text-has-each-ring-once values threshold b = once (contours-checked values threshold dx dy lines links points directory b n is)
+
+  pub isobands-text-has-each-ring-once : (values thresholds : List Float) (k : ℕ) → BandBuilt values thresholds k dx dy lines links points directory answer lines′ links′ points′ directory′
+      → EachRingOnce points′ directory′ n
+  isobands-text-has-each-ring-once values thresholds k b = once (isobands-checked values thresholds k dx dy lines links points directory b n is)
