@@ -1,5 +1,5 @@
-// Reads a terrain and its threshold from standard input and writes the regions that reach the threshold, as GeoJSON: one MultiPolygon. What is refused is
-// written by its number: 12 where the text is faulty. The tables have room for every terrain that is read.
+// Reads a terrain and its threshold from standard input and writes the regions that reach the threshold, as GeoJSON: one MultiPolygon. A text that is faulty is
+// refused with number 12, and nothing else is: the tables have room for every terrain that is read.
 use cells::Level;
 use contourbuilder::contours;
 use error::Refusal;
@@ -9,13 +9,18 @@ use isoringbuilder::Built;
 use reading::Reading;
 use reading::VALUES;
 use reading::read_input;
-ghost use Prim.Native.Nat.{_≤_};
-ghost use Rattle.scope.specs.Program.{programSide};
+ghost use mathlib.Core.Path.{_≡_};
+ghost use Prim.Native.Nat.{_*_, _≤_};
+ghost use lib.ListN.{length};
+ghost use Rattle.scope.specs.Terrain.{atLeast, terrain};
+ghost use Rattle.scope.specs.GeoJson.{geoJsonText};
+ghost use Rattle.scope.specs.Program.{programSide, contourText};
+ghost use Rattle.contour_geojson.specs.Drawing.{textRoom, Small, Roomy, Writable, Stands, InputDrawn};
 
-// A byte more than the longest text that is read.
+// A byte more than the longest text that is read (`accepted-texts-are-short`).
 const INPUT: usize = 6157;
 
-// The words of the tables: at most 2,112 segments are drawn, 528 rings, and 17 lines are open at a time.
+// The words of the tables: at most 17 lines are open at a time (`peak-within`), 2,112 segments are drawn (`segments-within`) and 528 rings (`rings-within`).
 const LINES: usize = 102;
 
 const LINKS: usize = 4224;
@@ -24,93 +29,124 @@ const POINTS: usize = 5280;
 
 const DIRECTORY: usize = 2112;
 
-// More than 16 bytes a point and 16 a ring.
+// The bytes of the text: 18 a point, 4 a ring and 40 are fewer (`text-within`).
 const TEXT: usize = 65536;
 
-// The first n bytes of a text.
-fn first(text: &[u8], n: usize) -> &[u8] {
-    if n <= text.len() { &text[0..n] } else { text }
+// What an input text comes to.
+enum Drawn {
+    // the text of its contour, of this many bytes
+    Text(u64),
+    // nothing: it is not the text of a terrain
+    Faulty,
 }
 
-// The first n samples.
-fn samples(values: &[f64], n: usize) -> &[f64] {
-    if n <= values.len() {
-        &values[0..n]
-    } else {
-        values
-    }
-}
-
-// Writes the number of a refusal.
-fn print_refusal(refusal: Refusal) {
-    io::write_all(1, b"refused ");
-    io::print_decimal(1, error::number(refusal) as u64);
-    io::write_all(1, b"\n");
-}
-
-// Writes the first bytes of a text as a line.
-fn print_text(text: &[u8; TEXT], length: u64) {
-    io::write_all(1, first(text, length as usize));
-    io::write_all(1, b"\n");
-}
-
-// Writes this many rings, with their classes and owners.
-fn print_rings(points: &[u16; POINTS], directory: &[u32; DIRECTORY], rings: u32) {
-    let mut text = [0u8; TEXT];
-    match write_geojson(points, directory, rings, &mut text) {
-        TextAnswer::Refused(refusal) => print_refusal(refusal),
-        TextAnswer::Bytes(length) => print_text(&text, length),
-    }
-}
-
-// How many samples a terrain has.
-fn sample_count(dx: usize, dy: usize) -> usize
-    requires { ⌜ (dx ≤ programSide) × (dy ≤ programSide) ⌝ }
+// Writes the text of a ring set that the writer takes, where there is room, and answers its length.
+fn write_rings(points: &[u16], directory: &[u32], rings: u32, text: &mut [u8]) -> u64
+    requires { ⌜ Writable (now points) (now directory) rings (now text) ⌝ }
+    ensures { λ r. ⌜ Stands (geoJsonText (now (points .entry)) (now (directory .entry)) rings) (now (text .entry)) r (now (text .exit)) ⌝ }
 {
-    dx * dy
+    match write_geojson(points, directory, rings, text) {
+        TextAnswer::Refused(_) => 0,
+        TextAnswer::Bytes(length) => length,
+    }
 }
 
-// Draws the regions of a terrain and writes them.
-fn draw(values: &[f64; VALUES], dx: usize, dy: usize, threshold: f64)
-    requires { ⌜ (dx ≤ programSide) × (dy ≤ programSide) ⌝ }
+// Draws the regions of a terrain over tables that have the room, writes their text and answers its length.
+fn write_over(
+    values: &[f64],
+    threshold: f64,
+    dx: usize,
+    dy: usize,
+    lines: &mut [u32],
+    links: &mut [u32],
+    points: &mut [u16],
+    directory: &mut [u32],
+    text: &mut [u8],
+) -> u64
+    requires { ⌜ Small (now values) dx dy × Roomy (now lines) (now links) (now points) (now directory) (now text) ⌝ }
+    ensures { λ r. ⌜ Stands (contourText (terrain (atLeast threshold) (now (values .entry)) dx dy) dx dy) (now (text .entry)) r (now (text .exit)) ⌝ }
+{
+    let level = Level { threshold };
+    match contours(values, level, dx, dy, lines, links, points, directory) {
+        Built::Refused(_) => 0,
+        Built::Rings(rings) => write_rings(points, directory, rings, text),
+    }
+}
+
+// Draws the regions of a terrain, writes their text and answers its length.
+fn write_contour(values: &[f64], threshold: f64, dx: usize, dy: usize, text: &mut [u8]) -> u64
+    requires { ⌜ Small (now values) dx dy × (textRoom ≤ length (now text)) ⌝ }
+    ensures { λ r. ⌜ Stands (contourText (terrain (atLeast threshold) (now (values .entry)) dx dy) dx dy) (now (text .entry)) r (now (text .exit)) ⌝ }
 {
     let mut lines = [0u32; LINES];
     let mut links = [0u32; LINKS];
     let mut points = [0u16; POINTS];
     let mut directory = [0u32; DIRECTORY];
-    let grid = samples(values, sample_count(dx, dy));
-    let level = Level { threshold };
-    match contours(
-        grid,
-        level,
+    write_over(
+        values,
+        threshold,
         dx,
         dy,
         &mut lines,
         &mut links,
         &mut points,
         &mut directory,
-    ) {
-        Built::Refused(refusal) => print_refusal(refusal),
-        Built::Rings(rings) => print_rings(&points, &directory, rings),
-    }
+        text,
+    )
 }
 
-// Reads a terrain and draws it.
-fn run(text: &[u8]) {
+// How many samples a terrain has.
+fn sample_count(dx: usize, dy: usize) -> usize
+    requires { ⌜ (dx ≤ programSide) × (dy ≤ programSide) ⌝ }
+    ensures { λ r. ⌜ r ≡ dx * dy ⌝ }
+{
+    dx * dy
+}
+
+// Draws the terrain of an input text.
+fn draw_input(input: &[u8], text: &mut [u8]) -> Drawn
+    requires { ⌜ textRoom ≤ length (now text) ⌝ }
+    ensures { λ r. ⌜ InputDrawn (now (input .entry)) (now (text .entry)) r (now (text .exit)) ⌝ }
+{
     let mut values = [0.0f64; VALUES];
-    match read_input(text, &mut values) {
-        Reading::Faulty => print_refusal(Refusal::BadText),
-        Reading::Terrain { dx, dy, threshold } => draw(&values, dx, dy, threshold),
+    match read_input(input, &mut values) {
+        Reading::Faulty => Drawn::Faulty,
+        Reading::Terrain { dx, dy, threshold } => {
+            let n = sample_count(dx, dy);
+            Drawn::Text(write_contour(&values[0..n], threshold, dx, dy, text))
+        }
     }
 }
 
-// Reads standard input, as far as a text may reach.
-fn run_input(text: &mut [u8; INPUT]) {
-    let length = io::read_full(0, text);
-    run(first(text, length));
+// The first n bytes of a text.
+fn first(text: &[u8], n: usize) -> &[u8] {
+    if n <= text.len() { &text[0..n] } else { text }
+}
+
+// Writes a text of this many bytes as a line, or number 12.
+fn print(answer: Drawn, text: &[u8; TEXT]) {
+    match answer {
+        Drawn::Text(length) => {
+            io::write_all(1, first(text, length as usize));
+            io::write_all(1, b"\n");
+        }
+        Drawn::Faulty => {
+            io::write_all(1, b"refused ");
+            io::print_decimal(1, error::number(Refusal::BadText) as u64);
+            io::write_all(1, b"\n");
+        }
+    }
+}
+
+// Reads standard input, as far as a text may reach, and draws it.
+fn run(input: &mut [u8; INPUT]) {
+    let mut text = [0u8; TEXT];
+    let length = io::read_full(0, input);
+    let answer = draw_input(first(input, length), &mut text);
+    print(answer, &text);
 }
 
 fn main() {
-    let mut text = [0u8; INPUT];
-    run_input(&mut text);
+    let mut input = [0u8; INPUT];
+    run(&mut input);
 }

@@ -1,8 +1,9 @@
--- What the proofs of this crate share, and in `Runs`, `Lengths`, `Shares` and `Texts` what its callers cite.
+-- What the proofs of this crate share, and in `Runs`, `Lengths`, `Shares`, `Texts` and `Bounds` what its callers cite.
 pub mod Runs
 pub mod Lengths
 pub mod Shares
 pub mod Texts
+pub mod Bounds
 mod Digits
 mod Rings
 mod Sums

@@ -54,6 +54,12 @@ nothing-above-outside dx dy inside = record {
     rows (suc c) zero h = refl
     rows (suc c) (suc r) h = ap (λ (b : Bool). b && inside c r) (ap (λ (b : Bool). ltb c dx && b) (le-ltb r dy (omega arith)) ∙ none (ltb c dx))
 
+pub at-most-one : (a b : Bool) → differ a b ≤ 1
+at-most-one true true = omega arith
+at-most-one true false = omega arith
+at-most-one false true = omega arith
+at-most-one false false = omega arith
+
 module _ (A : Sheet) {dx dy : ℕ} (out : Outside A dx dy) where
   -- ---- 1. after every number of cells, twice the open lines is the number of shared pairs, and that is at most dx + 2
 
@@ -63,12 +69,6 @@ module _ (A : Sheet) {dx dy : ℕ} (out : Outside A dx dy) where
 
   pub open-lines-are-half-the-pairs : (r c : ℕ) → c ≤ suc dx → 2 * length (openAfter A dx r c) ≡ sharedPairs A dx r c
   open-lines-are-half-the-pairs r c h = omega (arith, after A out r c h .half-the-pairs, count-is-length r c)
-
-  at-most-one : (a b : Bool) → differ a b ≤ 1
-  at-most-one true true = omega arith
-  at-most-one true false = omega arith
-  at-most-one false true = omega arith
-  at-most-one false false = omega arith
 
   pub shared-pairs-are-few : (r c : ℕ) → c ≤ suc dx → sharedPairs A dx r c ≤ dx + 2
   unfolding sharedPairs pairsAlong

@@ -18,6 +18,7 @@ pub mod Rules
 pub mod Peak
 pub mod Laws
 pub mod Shared
+pub mod Bounds
 pub mod Tests
 pub mod Words
 pub mod Digits

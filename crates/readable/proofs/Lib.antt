@@ -1,4 +1,4 @@
--- Laws of ring sets against number 9 and their text, with no code. Laws.antt and Text.antt have those that other crates cite.
+-- Laws of ring sets against number 9 and their text, with no code. Laws.antt, Text.antt, Pieces.antt, Past.antt and Counts.antt have those that other crates cite.
 pub mod Behind
 pub mod Packed
 pub mod Orders
@@ -8,3 +8,5 @@ pub mod Passing
 pub mod Laws
 pub mod Text
 pub mod Pieces
+pub mod Past
+pub mod Counts

@@ -1,9 +1,13 @@
--- What the program reads: the text of a terrain and its threshold, as bytes. Assumes nothing.
+-- What the program reads, the text of a terrain and its threshold, and what it writes, the text of the terrain's contour, both as bytes. Assumes nothing.
 use mathlib.Core.Path.{_≡_}
-use mathlib.Core.List.{List, [], _∷_, _++_}
+use mathlib.Core.List.{List, [], _∷_, _++_, map}
 use Prim.Native.Nat.{ℕ, zero, suc, _*_, _≤_}
 use lib.ListN.{length, take, drop}
-use Rattle.scope.specs.GeoJson.{decimal}
+use Rattle.scope.specs.Terrain.{Sheet, atLeast, terrain}
+use Rattle.scope.specs.Drawing.{ringsOf, ringCount}
+use Rattle.scope.specs.Smoothing.{whole}
+use Rattle.scope.specs.Tables.{packedPoints, contourRecords}
+use Rattle.scope.specs.GeoJson.{decimal, geoJsonText}
 
 -- numbers are 0 to 65,535, and sides 1 to 32
 unfoldable pub numberLimit : ℕ
@@ -56,3 +60,15 @@ inputText i = lineText (i .dx ∷ i .dy ∷ i .threshold ∷ []) ++ rowsText (i 
 pub record Accepts (text : List ℕ) (i : Input) : Type 0 where
   pub fits : Fitting i
   pub is-text : text ≡ inputText i
+
+-- the terrain of an input at its threshold
+unfoldable pub inputSheet : Input → Sheet
+inputSheet i = terrain (atLeast (whole (i .threshold))) (map whole (i .values)) (i .dx) (i .dy)
+
+-- the GeoJSON of a contour, by its points and its records
+unfoldable pub contourText : Sheet → ℕ → ℕ → List ℕ
+contourText A dx dy = geoJsonText (packedPoints (ringsOf A dx dy)) (contourRecords (ringsOf A dx dy)) (ringCount A dx dy)
+
+-- what the program writes for an input, and a newline behind it
+unfoldable pub programText : Input → List ℕ
+programText i = contourText (inputSheet i) (i .dx) (i .dy)

@@ -1,0 +1,2 @@
+-- What the program's steps ask and leave.
+pub mod Drawing
