@@ -15,7 +15,7 @@ use Rattle.scope.specs.Room.{directoryWords}
 use Rattle.scope.specs.Tables.{written}
 use Rattle.scope.specs.Contour.{classWord, ownerWord}
 use Rattle.scope.specs.GeoJson.{firstAt, countAt, classAt, ownerAt, ringSetRefused}
-use Rattle.ringset.proofs.Laws.{SoundRecord, Sound, sound}
+use Rattle.ringset.proofs.Laws.{SoundRecord, sound}
 use Rattle.ringrecord.specs.declared.Fate.{Fate}
 use Rattle.ringrecord.specs.declared.Fate.the-variants as fate-is
 use Rattle.ringrecord.specs.declared.RingRecord.{RingRecord}
@@ -195,20 +195,21 @@ sound-kept ps directory rings k s = by (eqb (classAt directory k) 0) refl
         let low = s .classed in
         a-hole (omega arith)
 
--- the words of a set that number 9 does not refuse come back from the records that they stand for
-pub checked-words-come-back : (ps directory : List ℕ) (n : ℕ) → ringSetRefused ps directory n ≡ false →
+-- so are those of a set that number 9 does not refuse
+pub checked-words-are-kept : (ps directory : List ℕ) (n : ℕ) → ringSetRefused ps directory n ≡ false → (i : ℕ) → i < n → Kept i (classAt directory i) (ownerAt directory i)
+checked-words-are-kept ps directory n e i h = sound-kept ps directory n i (sound ps directory n e .at i h)
+
+-- the first words come back from the records that they stand for
+pub first-words-come-back : (directory : List ℕ) (n : ℕ) → directoryWords n ≤ length directory → ((i : ℕ) → i < n → Kept i (classAt directory i) (ownerAt directory i)) →
     directoryOf (recordsFrom (take (directoryWords n) directory)) ≡ take (directoryWords n) directory
 unfolding directoryOf directoryWords recordStride classAt ownerAt
-checked-words-come-back ps directory n e = all-words-come-back 0 n (take (directoryWords n) directory) (length-take-le (directoryWords n) directory (all .long)) kept
+first-words-come-back directory n long kept = all-words-come-back 0 n (take (directoryWords n) directory) (length-take-le (directoryWords n) directory long) front-kept
   where
-    all : Sound ps directory n
-    all = sound ps directory n e
-
     word : (i q : ℕ) → i < n → q < 4 → getD (take (directoryWords n) directory) (4 * i + q) 0 ≡ getD directory (4 * i + q) 0
     word i q h l = getD-take (directoryWords n) directory (4 * i + q) 0 (omega arith)
 
-    kept : (i : ℕ) → i < n → Kept (0 + i) (classAt (take (directoryWords n) directory) i) (ownerAt (take (directoryWords n) directory) i)
-    kept i h = rw (zero-add, word i 2 h (omega arith), word i 3 h (omega arith)) (sound-kept ps directory n i (all .at i h))
+    front-kept : (i : ℕ) → i < n → Kept (0 + i) (classAt (take (directoryWords n) directory) i) (ownerAt (take (directoryWords n) directory) i)
+    front-kept i h = rw (zero-add, word i 2 h (omega arith), word i 3 h (omega arith)) (kept i h)
 
 -- ---- a call over records
 

@@ -6,6 +6,7 @@ use lib.Dec.{eqb}
 use Rattle.scope.specs.Limits.{noOwner}
 use Rattle.scope.specs.Contour as Contour
 use Rattle.scope.specs.Contour.{classWord, ownerWord}
+use Rattle.scope.specs.GeoJson.{firstAt, countAt, classAt, ownerAt}
 use Rattle.ringrecord.specs.declared.Fate.{Fate}
 use Rattle.ringrecord.specs.declared.Fate.the-variants as fate-is
 use Rattle.ringrecord.specs.declared.RingRecord.{RingRecord}
@@ -47,3 +48,7 @@ recordsFrom (first ∷ []) = []
 recordsFrom (first ∷ count ∷ []) = []
 recordsFrom (first ∷ count ∷ class ∷ []) = []
 recordsFrom (first ∷ count ∷ class ∷ owner ∷ words) = recordFrom first count class owner ∷ recordsFrom words
+
+-- record k of a directory
+unfoldable pub recordIn : List ℕ → ℕ → RingRecord
+recordIn directory k = recordFrom (firstAt directory k) (countAt directory k) (classAt directory k) (ownerAt directory k)

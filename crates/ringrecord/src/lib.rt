@@ -1,7 +1,17 @@
-// A directory record as a struct that holds its fate, and the way from document 01's four words to it and back.
+// A directory record as a struct that holds its fate, the way from document 01's four words to it and back, and the copies of a whole directory from words to
+// records and back. A copy is all or nothing and asks nothing of the caller.
+use lent::put;
+use ringset::record_at;
 ghost use mathlib.Core.Path.{_≡_};
+ghost use lib.ListN.{length};
+ghost use lib.Seq.{sets};
 ghost use Rattle.scope.specs.Contour.{classWord, ownerWord};
-ghost use Rattle.ringrecord.specs.Records.{fateOf, fateFrom, recordFrom};
+ghost use Rattle.scope.specs.Room.{directoryWords};
+ghost use Rattle.ringrecord.specs.Records.{fateOf, wordsOf, fateFrom, recordFrom, recordIn};
+ghost use Rattle.ringrecord.specs.Copies.{roomFor, copiedRings, recordsAfter, wordsAfter};
+
+// The words of a directory record: first point, point count, class, owner.
+const RECORD_STRIDE: usize = 4;
 
 // The class words of a polygon, of a hole, and of a line or bare ring.
 const POLYGON: u32 = 0;
@@ -79,4 +89,68 @@ pub fn record_from(first: u32, count: u32, class: u32, owner: u32) -> RingRecord
         count,
         fate: fate_from(class, owner),
     }
+}
+
+// Record `k` of directory words.
+fn record_in(directory: &[u32], k: u32) -> RingRecord
+    ensures { λ r. ⌜ r ≡ recordIn (now (directory .entry)) k ⌝ }
+{
+    let words = record_at(directory, k);
+    record_from(words.first, words.count, words.class, words.owner)
+}
+
+// Stores the four words of record `k`.
+fn put_words(directory: &mut [u32], k: u32, record: RingRecord)
+    ensures { λ _. ⌜ now (directory .exit) ≡ sets (now (directory .entry)) (directoryWords k) (wordsOf k «record») ⌝ }
+{
+    let at = RECORD_STRIDE * (k as usize);
+    let fate = record.fate;
+    put(directory, at, record.first);
+    put(directory, at + 1, record.count);
+    put(directory, at + 2, class_word(fate));
+    put(directory, at + 3, owner_word(k, fate));
+}
+
+// How many of the stated rings are copied, where there are so many words and records: all, or none.
+fn copied_rings(rings: u32, words: usize, records: usize) -> u32
+    ensures { λ r. ⌜ r ≡ copiedRings rings words records ⌝ }
+{
+    let n = rings as usize;
+    if words < RECORD_STRIDE * n {
+        return 0;
+    }
+    if records < n {
+        return 0;
+    }
+    rings
+}
+
+// Copies the first records, as many as rings are stated, out of directory words. Where there are not as many words or records, nothing changes. Answers whether
+// they were copied.
+pub fn records_from_words(directory: &[u32], rings: u32, records: &mut [RingRecord]) -> bool
+    ensures { λ r. ⌜ (r ≡ roomFor rings (length (now (directory .entry))) (length (now (records .entry)))) × (now (records .exit) ≡ recordsAfter rings (now (directory .entry)) (now (records .entry))) ⌝ }
+{
+    let n = copied_rings(rings, directory.len(), records.len());
+    let mut k: u32 = 0;
+    while k < n {
+        let record = record_in(directory, k);
+        records[k as usize] = record;
+        k += 1;
+    }
+    n == rings
+}
+
+// Copies the words of the first records, as many as rings are stated, into directory words. Where there are not as many words or records, nothing changes.
+// Answers whether they were copied.
+pub fn words_from_records(records: &[RingRecord], rings: u32, directory: &mut [u32]) -> bool
+    ensures { λ r. ⌜ (r ≡ roomFor rings (length (now (directory .entry))) (length (now (records .entry)))) × (now (directory .exit) ≡ wordsAfter rings (now (records .entry)) (now (directory .entry))) ⌝ }
+{
+    let n = copied_rings(rings, directory.len(), records.len());
+    let mut k: u32 = 0;
+    while k < n {
+        let record = records[k as usize];
+        put_words(directory, k, record);
+        k += 1;
+    }
+    n == rings
 }
