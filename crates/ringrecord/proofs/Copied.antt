@@ -18,7 +18,7 @@ use Rattle.scope.specs.GeoJson.{firstAt, countAt, classAt, ownerAt}
 use Rattle.ringrecord.specs.declared.Fate.the-variants.{Dropped}
 use Rattle.ringrecord.specs.declared.RingRecord.{RingRecord}
 use Rattle.ringrecord.specs.Records.{wordsOf, directoryFrom, directoryOf, recordFrom, recordsFrom, recordIn}
-use Rattle.ringrecord.specs.Copies.{roomFor, copiedRings, recordsAfter, wordsAfter}
+use Rattle.ringrecord.specs.Copies.{roomFor, copiedRings, recordsAfter, wordsFrom, wordsAfter}
 use Rattle.ringrecord.proofs.Laws.{as-many-words, as-many-records, records-append, Kept, first-words-come-back}
 
 -- ---- how many are copied
@@ -187,7 +187,7 @@ module _ (words : List ℕ) (records : List RingRecord) (rings : ℕ) {n : ℕ} 
   records-copied all = all-records words n (enough rings (length words) (length records) all .0) records ∙ rw all
 
   pub words-copied : n ≡ copiedRings rings (length words) (length records) → wordsTo records n words ≡ wordsAfter rings records words
-  unfolding wordsAfter
+  unfolding wordsAfter wordsFrom
   words-copied all = all-words records n (enough rings (length words) (length records) all .1) words ∙ rw all
 
 -- a copy leaves as many words and records as there were
@@ -204,7 +204,7 @@ module _ (words : List ℕ) (records : List RingRecord) (rings : ℕ) where
 -- ---- where there is room
 
 module _ (words : List ℕ) (records : List RingRecord) (rings : ℕ) (long : directoryWords rings ≤ length words) (many-there : rings ≤ length records) where
-  all-rings : copiedRings rings (length words) (length records) ≡ rings
+  pub all-rings : copiedRings rings (length words) (length records) ≡ rings
   unfolding copiedRings roomFor
   all-rings = rw (le-ltb (length words) (directoryWords rings) long, le-ltb (length records) rings many-there)
 
@@ -214,7 +214,7 @@ module _ (words : List ℕ) (records : List RingRecord) (rings : ℕ) (long : di
   first-records-copied = rw all-rings (take-at (recordsFrom (take (directoryWords rings) words)) _ rings (many words rings long))
 
   pub first-words-copied : take (directoryWords rings) (wordsAfter rings records words) ≡ directoryOf (take rings records)
-  unfolding wordsAfter written
+  unfolding wordsAfter wordsFrom written
   first-words-copied = rw all-rings (take-at (directoryOf (take rings records)) _ (directoryWords rings) (front-length records rings many-there))
 
 -- words that are copied out into records, and from there into other words, come back

@@ -1,5 +1,5 @@
 -- What follows of records and of the words that they stand for, by induction on the records or on four words at a time: lengths, single words, what comes back
--- of words and of records, and that a call over records has one result. Assumes nothing.
+-- of words and of records. Assumes nothing.
 use mathlib.Core.Path.{_≡_, refl, sym, ap, _∙_}
 use mathlib.Core.Bool.{Bool, true, false, cond}
 use mathlib.Core.List.{List, [], _∷_, _++_}
@@ -20,7 +20,6 @@ use Rattle.ringrecord.specs.declared.Fate.{Fate}
 use Rattle.ringrecord.specs.declared.Fate.the-variants as fate-is
 use Rattle.ringrecord.specs.declared.RingRecord.{RingRecord}
 use Rattle.ringrecord.specs.Records.{fateOf, wordsOf, directoryFrom, directoryOf, fateFrom, recordFrom, recordsFrom}
-use Rattle.ringrecord.specs.Over.{OverRecords}
 
 -- ---- lengths
 
@@ -210,19 +209,3 @@ first-words-come-back directory n long kept = all-words-come-back 0 n (take (dir
 
     front-kept : (i : ℕ) → i < n → Kept (0 + i) (classAt (take (directoryWords n) directory) i) (ownerAt (take (directoryWords n) directory) i)
     front-kept i h = rw (zero-add, word i 2 h (omega arith), word i 3 h (omega arith)) (kept i h)
-
--- ---- a call over records
-
-module _ (Words : List ℕ → List ℕ → Type 0) (one : (d d′ d″ : List ℕ) → Words d d′ → Words d d″ → d′ ≡ d″) (n : ℕ) (records : List RingRecord) where
-  -- the words written are what stands in front
-  in-front : {records′ : List RingRecord} (a : OverRecords Words n records records′) →
-      take (directoryWords n) (written (a .words) (directoryOf records)) ≡ a .words
-  unfolding written
-  in-front a = take-at (a .words) _ (directoryWords n) (a .as-many)
-
-  -- where a word directory has one result, so have the records
-  pub one-result : {records′ records″ : List RingRecord} → OverRecords Words n records records′ → OverRecords Words n records records″ → records′ ≡ records″
-  one-result a b =
-      let whole = one _ _ _ (a .as-words) (b .as-words) in
-      let same = sym (in-front a) ∙ ap (take (directoryWords n)) whole ∙ in-front b in
-      a .records-are ∙ ap (λ (words : List ℕ). written (recordsFrom words) records) same ∙ sym (b .records-are)

@@ -1,4 +1,4 @@
--- What follows of records, of their words, of the copies and of a call over records; and a record as the walks over a slice of them see it.
+-- What follows of records, of their words, of the copies; and a record as the walks over a slice of them see it.
 pub mod Laws
 pub mod Copied
 pub mod Records

@@ -21,6 +21,9 @@ copiedRings rings words records = cond (roomFor rings words records) rings 0
 unfoldable pub recordsAfter : ℕ → List ℕ → List RingRecord → List RingRecord
 recordsAfter rings words records = written (recordsFrom (take (directoryWords (copiedRings rings (length words) (length records))) words)) records
 
--- the words at exit, where records are copied into them
+-- the words of the records that are copied into words, and the words at exit
+unfoldable pub wordsFrom : ℕ → List RingRecord → List ℕ → List ℕ
+wordsFrom rings records words = directoryOf (take (copiedRings rings (length words) (length records)) records)
+
 unfoldable pub wordsAfter : ℕ → List RingRecord → List ℕ → List ℕ
-wordsAfter rings records words = written (directoryOf (take (copiedRings rings (length words) (length records)) records)) words
+wordsAfter rings records words = written (wordsFrom rings records words) words

@@ -1,4 +1,4 @@
--- `records::line_records` meets its contract: a walk of its MIR, by hand, as `Entries.antt` has it. Its own are the parameters in front of `lines`, and the call of `lay_lines`. Assumes nothing.
+-- `records::line_records` meets its contract: a walk of its MIR, by hand, as `Entries.antt` has it. Its own are the parameters in front of `lines`, and the call of `lines_over`. Assumes nothing.
 use mathlib.Core.Path.{_≡_, refl}
 use Prim.Native.Nat.{ℕ}
 use mathlib.Core.Bool.{Bool}
@@ -18,7 +18,7 @@ use contract.Monad.{Fun}
 use contract.Running.{givenOf, tables, tablesOf}
 use sound.WpLaws.{fmOf}
 use types.Kit.{Given, ‵, _$_, _∵_, !, qed, move, drop, suffices, frame, done}
-use types.Run.{look, init, stop, from, and-then, no-more, land, returns, params1, pass1, pass0}
+use types.Run.{look, init, stop, from, of-opd, and-then, no-more, assigns, returns, params1, pass1, pass0}
 use denote.RattleType.{owns}
 use denote.Builtin.{u32, f64}
 use denote.Plain.{UInt, uint-vals, Boolean, bool-vals}
@@ -39,22 +39,24 @@ use Rattle.smoothing.proofs.Placement as Placement′
 use Rattle.linebuilder.specs.Lines.{LinesBuilt}
 use Rattle.ringrecord.specs.declared.RingRecord.{RingRecord}
 use Rattle.walks.proofs.Locals.{enters, leaves, var, at}
-use Rattle.walks.proofs.Params.{Params, gave-mut, kept, passed, words, Known, Out, shown}
+use Rattle.walks.proofs.Params.{Params, gave-mut, lent-mut, kept, passed, words, Known, Out, shown}
 use Rattle.walks.proofs.Rows.{had, of-uint, of-bool}
 use Rattle.ringrecord.proofs.Records.{R}
 use Rattle.walks.proofs.Again.{under-name}
 use Rattle.walks.proofs.Turns.{calls-to}
-use Rattle.sources.specs.Laid.{LaidOver}
-use Rattle.delivering.proofs.Structs.{laid-kind, built-kind}
-use Rattle.delivering.proofs.hand_out.Symbol as hand-out-def
-use Rattle.delivering.proofs.hand_out.Symbol.{name as #hand-out}
-use Rattle.delivering.proofs.hand_out.Met as hand-out-thm
-use Rattle.laying.proofs.lay_lines as lay
-use Rattle.laying.proofs.lay_lines.Symbol as lay-def
-use Rattle.laying.proofs.lay_lines.Symbol.{name as #lay}
-use Rattle.laying.proofs.lay_lines.Met as lay-thm
+use Rattle.ringrecord.proofs.records_from_words.Symbol as copying-def
+use Rattle.ringrecord.proofs.records_from_words.Symbol.{name as #copying}
+use Rattle.ringrecord.proofs.records_from_words.Met as copying-thm
+use Rattle.records.specs.Over.{ringsIn, OverWords}
+use Rattle.records.proofs.rings_in.Symbol as rings-in-def
+use Rattle.records.proofs.rings_in.Symbol.{name as #rings-in}
+use Rattle.records.proofs.rings_in.Met as rings-in-thm
+use Rattle.records.proofs.lines_over as over
+use Rattle.records.proofs.lines_over.Symbol as over-def
+use Rattle.records.proofs.lines_over.Symbol.{name as #over}
+use Rattle.records.proofs.lines_over.Met as over-thm
 use Rattle.records.proofs.Passing.{spent, spent-slice}
-use Rattle.records.proofs.Entries.{level-kind, placement-kind, All, Some, Hand, builds}
+use Rattle.records.proofs.Entries.{level-kind, placement-kind, built-kind, All, Some, Counting, Copying, builds}
 use Rattle.records.proofs.line_records.Key.{name as #entry}
 use Rattle.records.proofs.line_records as entry
 use Rattle.records.proofs.line_records.Statement as stated
@@ -62,20 +64,20 @@ use Rattle.records.proofs.line_records.Code as code
 
 -- ---- the parameters
 abbrev ps : Params (entry.ended .signature .params) (entry.ended .kept)
-ps = (spent-slice 0 tt (plain (λ _. f64)), (spent level-kind, (spent (of-uint w64), (spent (of-uint w64), (spent of-bool, (spent placement-kind, (gave-mut 1 tt (plain (λ _. u32)), (gave-mut 2 tt (plain (λ _. u32)), (gave-mut 3 tt (plain (λ _. f64)), (gave-mut 4 tt (plain (λ _. R)), tt))))))))))
+ps = (spent-slice 0 tt (plain (λ _. f64)), (spent level-kind, (spent (of-uint w64), (spent (of-uint w64), (spent of-bool, (spent placement-kind, (gave-mut 1 tt (plain (λ _. u32)), (gave-mut 2 tt (plain (λ _. u32)), (gave-mut 3 tt (plain (λ _. f64)), (lent-mut 4 tt (plain (λ _. u32)), (gave-mut 5 tt (plain (λ _. R)), tt)))))))))))
 
 -- where local j stands, with p entries in front
 abbrev L : ℕ → ℕ → ℕ
-L = at 23
+L = at 28
 
 module _ {M : Type 1} (𝓤 : URA M) (H : Heap 𝓤) (A : Atoms 𝓤) (mem : Memory → SProp 𝓤) (run : Routine → Fun 𝓤) where
-  -- the contract of the function that lays
-  abbrev Lay : Contract 𝓤
-  Lay = tripleOf 𝓤 H A lay.signature (lay.spec 𝓤 H A mem run)
+  -- the contract of the function that builds
+  abbrev Over : Contract 𝓤
+  Over = tripleOf 𝓤 H A over.signature (over.spec 𝓤 H A mem run)
 
 module _ {M : Type 1} (𝓤 : URA M) (H : Heap 𝓤) (A : Atoms 𝓤) (W : Given 𝓤 H A) (mem : Memory → SProp 𝓤) (run : Routine → Fun 𝓤) (𝓣 : Tables 𝓤 H)
-    (lays : Triple 𝓤 (𝓣 .C #lay) (Lay 𝓤 H A mem run)) (hands : Triple 𝓤 (𝓣 .C #hand-out) (Hand 𝓤 H A mem run))
-    (κs : Lfts 5) (qs : Shares 5) (a : Args entry.signature κs) (are : Known entry.ended ps κs a) where
+    (known : Triple 𝓤 (𝓣 .C #over) (Over 𝓤 H A mem run)) (counts : Triple 𝓤 (𝓣 .C #rings-in) (Counting 𝓤 H A mem run)) (copies : Triple 𝓤 (𝓣 .C #copying) (Copying 𝓤 H A mem run))
+    (κs : Lfts 6) (qs : Shares 6) (a : Args entry.signature κs) (are : Known entry.ended ps κs a) where
   abbrev values : RefT (List (f64 .Denot))
   values = a .0
 
@@ -103,12 +105,15 @@ module _ {M : Type 1} (𝓤 : URA M) (H : Heap 𝓤) (A : Atoms 𝓤) (W : Given
   abbrev points : RefT (List (f64 .Denot))
   points = a .1 .1 .1 .1 .1 .1 .1 .1 .0
 
+  abbrev tab : RefT (List ℕ)
+  tab = a .1 .1 .1 .1 .1 .1 .1 .1 .1 .0
+
   abbrev recs : RefT (List RingRecord)
-  recs = a .1 .1 .1 .1 .1 .1 .1 .1 .1 .0
+  recs = a .1 .1 .1 .1 .1 .1 .1 .1 .1 .1 .0
 
   -- what the word form ensures
-  abbrev Words : List ℕ → List (f64 .Denot) → List ℕ → Built → List ℕ → List ℕ → Type 0
-  Words lines′ points′ directory answer links′ directory′ = LinesBuilt (values .now) (level .threshold) dx dy smooth (placingOf placement) (lines .now) (links .now) (points .now) directory answer lines′ links′ points′ directory′
+  abbrev Words : List ℕ → List ℕ → List (f64 .Denot) → Built → List ℕ → List ℕ → Type 0
+  Words lines′ links′ points′ answer directory directory′ = LinesBuilt (values .now) (level .threshold) dx dy smooth (placingOf placement) (lines .now) (links .now) (points .now) directory answer lines′ links′ points′ directory′
 
   walk : ent 𝓤 (onEntry 𝓤 H A entry.signature κs qs a (passed entry.ended ps κs a))
       (WpFn 𝓤 H (𝓣 .C) (𝓣 .Λ) code.function (words entry.ended ps κs a) (Out entry.ended ps 𝓤 H A (entry.clauses 𝓤 H A mem run) κs qs tt a tt))
@@ -119,27 +124,27 @@ module _ {M : Type 1} (𝓤 : URA M) (H : Heap 𝓤) (A : Atoms 𝓤) (W : Given
       pass1 ! (init ! (L 0 3) refl (tt, record { fits = are .1 .1 .0 .1 })) $ pass1 ! (init ! (L 0 4) refl (tt, record { fits = are .1 .1 .1 .0 .1 })) $
       pass1 ! (init ! (L 0 5) refl (tt, tt)) $ pass1 ! (init ! (L 0 6) refl (placement-kind .lawful 𝓤 H A W .typed placement _ (are .1 .1 .1 .1 .1 .0) .0)) $
       pass1 ! (init ! (L 0 7) refl (tt, (tt, (record { fits = are .1 .1 .1 .1 .1 .1 .0 .0 .1 .0 }, tt)))) $ pass1 ! (init ! (L 0 8) refl (tt, (tt, (record { fits = are .1 .1 .1 .1 .1 .1 .1 .0 .0 .1 .0 }, tt)))) $
-      pass1 ! (init ! (L 0 9) refl (tt, (tt, (record { fits = are .1 .1 .1 .1 .1 .1 .1 .1 .0 .0 .1 .0 }, tt)))) $ pass1 ! (init ! (L 0 10) refl (tt, (tt, (record { fits = are .1 .1 .1 .1 .1 .1 .1 .1 .1 .0 .0 .1 .0 }, tt)))) $ pass0 ! $
-      move ! (46 ∷ 47 ∷ []) $ builds ! mem run (fmOf 𝓤 H (W .laws) 𝓣) hands f64 7 1 (bs .1 .1 .1 .1 .1 .1 .1) refl (κs .1) (qs .1) ts
-      (ShrSlice (named 0) (κs .0) f64 .own values (slice-vals values) ∷ Level′.the-row .own level (level-kind .vals level) ∷ UInt w64 .own dx (uint-vals w64 dx) ∷ UInt w64 .own dy (uint-vals w64 dy) ∷ Boolean .own smooth (bool-vals smooth)
-      ∷ Placement′.the-row .own placement (placement-kind .vals placement) ∷ [])
-      lines links points recs (are .1 .1 .1 .1 .1 .1) Words
-      (λ ν δ go. calls-to ! (fmOf 𝓤 H (W .laws) 𝓣) lay.ended (lay.clauses 𝓤 H A mem run) lays (
+      pass1 ! (init ! (L 0 9) refl (tt, (tt, (record { fits = are .1 .1 .1 .1 .1 .1 .1 .1 .0 .0 .1 .0 }, tt)))) $ pass1 ! (init ! (L 0 10) refl (tt, (tt, (record { fits = are .1 .1 .1 .1 .1 .1 .1 .1 .1 .0 .0 .1 .0 }, tt)))) $
+      pass1 ! (init ! (L 0 11) refl (tt, (tt, (record { fits = are .1 .1 .1 .1 .1 .1 .1 .1 .1 .1 .0 .0 .1 .0 }, tt)))) $ pass0 ! $
+      move ! (56 ∷ 57 ∷ []) $ builds ! mem run (fmOf 𝓤 H (W .laws) 𝓣) counts copies f64 7 1 (bs .1 .1 .1 .1 .1 .1 .1) refl (κs .1) (qs .1) ts
+      (ShrSlice (named 0) (κs .0) f64 .own values (slice-vals values) ∷ Level′.the-row .own level (level-kind .vals level) ∷ UInt w64 .own dx (uint-vals w64 dx) ∷ UInt w64 .own dy (uint-vals w64 dy) ∷ Boolean .own smooth (bool-vals smooth) ∷ Placement′.the-row .own placement (placement-kind .vals placement) ∷ [])
+      lines links points tab recs (are .1 .1 .1 .1 .1 .1) Words
+      (λ ν δ go. calls-to ! (fmOf 𝓤 H (W .laws) 𝓣) over.ended (over.clauses 𝓤 H A mem run) known (
         (
-          (κs .0, (κs .1 .0, (ν ∷ [], (κs .1 .1 .1 .0, tt)))),
-          (qs .0, (qs .1 .0, (fullShare, (qs .1 .1 .1 .0, tt)))),
+          (κs .0, (κs .1 .0, (κs .1 .1 .0, (κs .1 .1 .1 .0, (ν ∷ [], tt))))),
+          (qs .0, (qs .1 .0, (qs .1 .1 .0, (qs .1 .1 .1 .0, (fullShare, tt))))),
           tt,
-          (values, (level, (dx, (dy, (smooth, (placement, (lines, (under-name links δ (links .now), (points, (length (recs .now), tt)))))))))),
-          (slice-vals values, (level-kind .vals level, (uint-vals w64 dx, (uint-vals w64 dy, (bool-vals smooth, (placement-kind .vals placement, (slice-vals lines, (slice-vals links, (slice-vals points, (uint-vals w64 (length (recs .now)), tt)))))))))),
+          (values, (level, (dx, (dy, (smooth, (placement, (lines, (links, (points, (under-name tab δ (tab .now), (length (recs .now), tt))))))))))),
+          (slice-vals values, (level-kind .vals level, (uint-vals w64 dx, (uint-vals w64 dy, (bool-vals smooth, (placement-kind .vals placement, (slice-vals lines, (slice-vals links, (slice-vals points, (slice-vals tab, (uint-vals w64 (length (recs .now)), tt))))))))))),
         ),
         tt,
       )
-      (Some (κs .1) (qs .1) ts ν) refl (id⊢ 𝓤 (emp 𝓤)) laid-kind (λ r ws. LaidOver (Words (ws .1 .1 .1 .1 .1 .1 .0) (ws .1 .1 .1 .1 .1 .1 .1 .1 .0)) (length (recs .now)) r (ws .1 .1 .1 .1 .1 .1 .1 .0)) (λ r ws. refl)
-      (and-then ! (var ! (L 4 1) refl) (and-then ! (var ! (L 4 2) refl) (and-then ! (var ! (L 4 3) refl) (and-then ! (var ! (L 4 4) refl) (and-then ! (var ! (L 4 5) refl) (and-then ! (var ! (L 4 6) refl) (and-then ! (var ! (L 4 14) refl) (and-then ! (var ! (L 4 16) refl) (and-then ! (var ! (L 4 18) refl) (and-then ! (var ! (L 4 11) refl) (no-more !)))))))))))
-      (λ laid ws over is. drop ! $ go laid (ws .1 .1 .1 .1 .1 .1 .0) (ws .1 .1 .1 .1 .1 .1 .1 .0) (ws .1 .1 .1 .1 .1 .1 .1 .1 .0) over is))
-      (λ laid r ls ks ps′ rs over is long₁ long₂ long₃ long₄. land ! (from ! (stop !)) (init ! (L 2 0) refl (built-kind .lawful 𝓤 H A W .typed r _ is .0)) $ returns ! (look ! (L 2 0) refl) $ leaves ! 2 refl $
+      (Some (κs .1) (qs .1) ts ν) refl (id⊢ 𝓤 (emp 𝓤)) built-kind (λ r ws. OverWords (λ directory directory′. Words (ws .1 .1 .1 .1 .1 .1 .0) (ws .1 .1 .1 .1 .1 .1 .1 .0) (ws .1 .1 .1 .1 .1 .1 .1 .1 .0) r directory directory′) (ringsIn r) (length (recs .now)) (tab .now) (ws .1 .1 .1 .1 .1 .1 .1 .1 .1 .0)) (λ r ws. refl)
+      (and-then ! (var ! (L 4 1) refl) (and-then ! (var ! (L 4 2) refl) (and-then ! (var ! (L 4 3) refl) (and-then ! (var ! (L 4 4) refl) (and-then ! (var ! (L 4 5) refl) (and-then ! (var ! (L 4 6) refl) (and-then ! (var ! (L 4 16) refl) (and-then ! (var ! (L 4 18) refl) (and-then ! (var ! (L 4 20) refl) (and-then ! (var ! (L 4 22) refl) (and-then ! (var ! (L 4 12) refl) (no-more !))))))))))))
+      (λ r ws built is. drop ! $ go r (ws .1 .1 .1 .1 .1 .1 .0) (ws .1 .1 .1 .1 .1 .1 .1 .0) (ws .1 .1 .1 .1 .1 .1 .1 .1 .0) (ws .1 .1 .1 .1 .1 .1 .1 .1 .1 .0) built is))
+      (λ r n b ls ks ps′ ds rs built is long₁ long₂ long₃ long₄ long₅. assigns ! (of-opd ! (var ! (L 2 13) refl)) (from ! (stop !)) (init ! (L 2 0) refl (built-kind .lawful 𝓤 H A W .typed r _ is .0)) $ returns ! (look ! (L 2 0) refl) $ leaves ! 2 refl $
       suffices ! _ (ends-at 𝓤 H A entry.ended (kept entry.ended ps) (entry.clauses 𝓤 H A mem run) W ((κs, qs, tt, a, passed entry.ended ps κs a), tt) _ r
-      (tt, (tt, (tt, (tt, (tt, (tt, (ls, (ks, (ps′, (rs, tt)))))))))) (tt, (tt, (tt, (tt, (tt, (tt, (long₁, (long₂, (long₃, (long₄, tt))))))))))) $ says ! over $ frame ! $ frame ! $ had ! built-kind r is $ done !))
+      (tt, (tt, (tt, (tt, (tt, (tt, (ls, (ks, (ps′, (ds, (rs, tt))))))))))) (tt, (tt, (tt, (tt, (tt, (tt, (long₁, (long₂, (long₃, (long₄, (long₅, tt)))))))))))) $ says ! built $ frame ! $ frame ! $ had ! built-kind r is $ done !))
     where
       ts : List (Lft × Share)
       ts = (κs .0, qs .0) ∷ []
@@ -151,5 +156,6 @@ line-records-spec 𝓤 H 𝓜 𝓖 𝓡 =
     (tables 𝓤 H 𝓜 𝓡 code.env .C) (tables 𝓤 H 𝓜 𝓡 code.env .Λ) #entry code.function (code.unfolded 𝓤 H 𝓜 𝓡)
     (shown entry.ended ps 𝓤 H (𝓖 .A) (entry.clauses 𝓤 H (𝓖 .A) (𝓜 .mem) (𝓡 .run)) (givenOf 𝓤 H 𝓜 𝓖) (tablesOf 𝓤 H 𝓜 (tables 𝓤 H 𝓜 𝓡 code.env)) code.function
     (λ κs qs bounds a g are. via 𝓤 _ (fst∗ 𝓤 _ (emp 𝓤)) (walk 𝓤 H (𝓖 .A) (givenOf 𝓤 H 𝓜 𝓖) (𝓜 .mem) (𝓡 .run) (tablesOf 𝓤 H 𝓜 (tables 𝓤 H 𝓜 𝓡 code.env))
-    (cited 𝓤 H (Lay 𝓤 H (𝓖 .A) (𝓜 .mem) (𝓡 .run)) 𝓜 𝓡 code.env #lay lay-def.routine code.calls-laying·lay-lines (lay-thm.met 𝓤 H 𝓜 𝓖 𝓡))
-    (cited 𝓤 H (Hand 𝓤 H (𝓖 .A) (𝓜 .mem) (𝓡 .run)) 𝓜 𝓡 code.env #hand-out hand-out-def.routine code.calls-delivering·hand-out (hand-out-thm.met 𝓤 H 𝓜 𝓖 𝓡)) κs qs a are)))
+    (cited 𝓤 H (Over 𝓤 H (𝓖 .A) (𝓜 .mem) (𝓡 .run)) 𝓜 𝓡 code.env #over over-def.routine code.calls-records·lines-over (over-thm.met 𝓤 H 𝓜 𝓖 𝓡))
+    (cited 𝓤 H (Counting 𝓤 H (𝓖 .A) (𝓜 .mem) (𝓡 .run)) 𝓜 𝓡 code.env #rings-in rings-in-def.routine code.calls-records·rings-in (rings-in-thm.met 𝓤 H 𝓜 𝓖 𝓡))
+    (cited 𝓤 H (Copying 𝓤 H (𝓖 .A) (𝓜 .mem) (𝓡 .run)) 𝓜 𝓡 code.env #copying copying-def.routine code.calls-ringrecord·records-from-words (copying-thm.met 𝓤 H 𝓜 𝓖 𝓡)) κs qs a are)))

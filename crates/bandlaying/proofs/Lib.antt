@@ -1,5 +1,0 @@
--- What the proofs of this crate share.
-pub mod Packing
-pub mod Owning
-pub mod Counted
-pub mod Laws

@@ -1,2 +1,0 @@
--- What handing a build out leaves.
-pub mod HandedOut

@@ -1,2 +1,0 @@
--- What a pass and the packing along its links lead to.
-pub mod Laws

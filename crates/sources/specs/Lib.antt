@@ -1,3 +1,0 @@
--- Where records come from, and what is written of them.
-pub mod Source
-pub mod Laid
