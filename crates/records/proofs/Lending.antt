@@ -6,22 +6,23 @@ use mathlib.Core.List.{List, _++_}
 use Prim.Native.Nat.{ℕ, _+_, _*_, _≤_, min}
 use native.Mathlib.Omega.{arith}
 use lib.Dec.{ltb}
-use lib.ListN.{length, take, drop, length-take}
+use lib.ListN.{length, take, drop, length-append}
 use lib.Seq.{length-take-le, take-at, drop-at}
 use borrow.Author.Tests.{ltb-false}
 use Rattle.error.specs.declared.Refusal.the-variants.{PointsShort, DirectoryShort}
 use Rattle.scope.specs.Limits.{recordStride}
 use Rattle.scope.specs.Terrain.{Sheet}
 use Rattle.scope.specs.Room.{directoryWords, pointWords, bandPointWords, bandDirectoryWords}
+use Rattle.scope.specs.Tables.{written}
 use Rattle.scope.specs.Drawing.{segmentCount, ringCount}
 use Rattle.isoringbuilder.specs.declared.Built.{Built}
 use Rattle.isoringbuilder.specs.Verdict.{Verdict, refused, passes, roomVerdict, outputVerdict}
 use Rattle.isoringbuilder.specs.Answers.{built}
 use Rattle.bands.specs.Bands.{bandRoom, bandOutputs, bandBuilt}
 use Rattle.ringrecord.specs.declared.RingRecord.{RingRecord}
-use Rattle.ringrecord.specs.Copies.{copiedRings, recordsAfter}
-use Rattle.ringrecord.proofs.Copied.{all-rings}
-use Rattle.records.specs.Over.{ringsIn, lentWords, OverWords, OverRecords}
+use Rattle.ringrecord.specs.Copies.{roomFor, copiedRings, recordsAfter, wordsFrom, wordsAfter}
+use Rattle.ringrecord.proofs.Copied.{enough, front-length, all-rings}
+use Rattle.records.specs.Over.{ringsIn, lentWords, readWords, OverWords, OverRecords}
 
 -- no more words are lent than there are, and than so many records have
 pub lent-below : (words records : ℕ) → lentWords words records ≤ words
@@ -88,3 +89,19 @@ band-rings-fit v L U dx dy points directory is =
     by passes true c e = omega arith
     by passes false true e = omega arith
     by passes false false e = ltb-false directory (4 * (ringCount L dx dy + ringCount U dx dy)) e
+
+-- ---- the words that a reader is lent
+
+module _ (rings : ℕ) (records : List RingRecord) (words : List ℕ) {copied : Bool} (is : copied ≡ roomFor rings (length words) (length records)) {words′ : List ℕ} (are : words′ ≡ wordsAfter rings records words) where
+  as-long : length (wordsFrom rings records words) ≡ readWords rings copied
+  unfolding wordsFrom readWords copiedRings
+  as-long = front-length records (copiedRings rings (length words) (length records)) (enough rings (length words) (length records) refl .1) ∙ rw is
+
+  -- they are those that were copied
+  pub read-words : take (readWords rings copied) words′ ≡ wordsFrom rings records words
+  unfolding wordsAfter written
+  read-words = rw are (take-at (wordsFrom rings records words) _ (readWords rings copied) as-long)
+
+  pub read-words-fit : readWords rings copied ≤ length words′
+  unfolding wordsAfter written
+  read-words-fit = rw (are, length-append, sym as-long) (omega arith)

@@ -3,3 +3,4 @@
 pub mod Passing
 pub mod Lending
 pub mod Entries
+pub mod Readers

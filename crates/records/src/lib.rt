@@ -67,7 +67,16 @@ fn rings_over(
         (now (lines .exit)) (now (links .exit)) (now (points .exit)) directory′) (ringsIn r) room (now (directory .entry)) (now (directory .exit)) ⌝ }
 {
     let lent = lent_words(directory.len(), room);
-    contour_rings(values, level, dx, dy, lines, links, points, &mut directory[..lent])
+    contour_rings(
+        values,
+        level,
+        dx,
+        dy,
+        lines,
+        links,
+        points,
+        &mut directory[..lent],
+    )
 }
 
 // contour_lines over the first words, as many as that many records have.
@@ -88,7 +97,18 @@ fn lines_over(
         (now (lines .exit)) (now (links .exit)) (now (points .exit)) directory′) (ringsIn r) room (now (directory .entry)) (now (directory .exit)) ⌝ }
 {
     let lent = lent_words(directory.len(), room);
-    contour_lines(values, level, dx, dy, smooth, placement, lines, links, points, &mut directory[..lent])
+    contour_lines(
+        values,
+        level,
+        dx,
+        dy,
+        smooth,
+        placement,
+        lines,
+        links,
+        points,
+        &mut directory[..lent],
+    )
 }
 
 // contours over the first words, as many as that many records have.
@@ -107,7 +127,16 @@ fn contours_over(
         (now (lines .exit)) (now (links .exit)) (now (points .exit)) directory′) (ringsIn r) room (now (directory .entry)) (now (directory .exit)) ⌝ }
 {
     let lent = lent_words(directory.len(), room);
-    contours(values, level, dx, dy, lines, links, points, &mut directory[..lent])
+    contours(
+        values,
+        level,
+        dx,
+        dy,
+        lines,
+        links,
+        points,
+        &mut directory[..lent],
+    )
 }
 
 // isobands over the first words, as many as that many records have.
@@ -127,7 +156,17 @@ fn bands_over(
         (now (lines .exit)) (now (links .exit)) (now (points .exit)) directory′) (ringsIn r) room (now (directory .entry)) (now (directory .exit)) ⌝ }
 {
     let lent = lent_words(directory.len(), room);
-    isobands(values, thresholds, k, dx, dy, lines, links, points, &mut directory[..lent])
+    isobands(
+        values,
+        thresholds,
+        k,
+        dx,
+        dy,
+        lines,
+        links,
+        points,
+        &mut directory[..lent],
+    )
 }
 
 // contour_rings, with a record a ring beside its words. Number 8 is given exactly where there are fewer records than rings, or fewer words than four a ring; records
@@ -171,7 +210,19 @@ pub fn line_records(
         (now (lines .exit)) (now (links .exit)) (now (points .exit)) directory′) (ringsIn r) (now (directory .entry)) (now (directory .exit)) (now (records .entry)) (now (records .exit)) ⌝ }
 {
     let room = records.len();
-    let built = lines_over(values, level, dx, dy, smooth, placement, lines, links, points, directory, room);
+    let built = lines_over(
+        values,
+        level,
+        dx,
+        dy,
+        smooth,
+        placement,
+        lines,
+        links,
+        points,
+        directory,
+        room,
+    );
     let n = rings_in(built);
     let _ = records_from_words(directory, n, records);
     built
@@ -216,7 +267,18 @@ pub fn isoband_records(
         (now (lines .exit)) (now (links .exit)) (now (points .exit)) directory′) (ringsIn r) (now (directory .entry)) (now (directory .exit)) (now (records .entry)) (now (records .exit)) ⌝ }
 {
     let room = records.len();
-    let built = bands_over(values, thresholds, k, dx, dy, lines, links, points, directory, room);
+    let built = bands_over(
+        values,
+        thresholds,
+        k,
+        dx,
+        dy,
+        lines,
+        links,
+        points,
+        directory,
+        room,
+    );
     let n = rings_in(built);
     let _ = records_from_words(directory, n, records);
     built
@@ -259,7 +321,12 @@ fn text_over(
     requires { ⌜ readWords rings copied ≤ length (now directory) ⌝ }
     ensures { λ r. ⌜ (r ≡ writtenAnswer (now (points .entry)) (take (readWords rings copied) (now (directory .entry))) rings (now (text .entry))) × (now (text .exit) ≡ textAfter (now (points .entry)) (take (readWords rings copied) (now (directory .entry))) rings (now (text .entry))) ⌝ }
 {
-    write_geojson(points, &directory[0..read_words(rings, copied)], rings, text)
+    write_geojson(
+        points,
+        &directory[0..read_words(rings, copied)],
+        rings,
+        text,
+    )
 }
 
 // ring_set_faulty over the words of the first records, as many as rings are stated, which are copied into the directory. Where there are not as many words or
