@@ -1,6 +1,8 @@
 // The area of a ring, and a ring against a ring, over doubled whole coordinates.
 // Words are X, Y, X, Y, and so on. Both functions answer on every input, and change nothing.
 use error::Refusal;
+use limits::COORDINATE_LIMIT;
+use limits::POINT_LIMIT;
 ghost use mathlib.Core.Path.{_≡_};
 ghost use mathlib.Core.Bool.{cond};
 ghost use Prim.Native.Nat.{_+_, _*_, _^_, _<_};
@@ -8,12 +10,6 @@ ghost use lib.Dec.{eqb};
 ghost use Rattle.scope.specs.Area.{faultyWords, areaRefused};
 ghost use Rattle.scope.specs.Containment.{between, onPair, flips};
 ghost use Rattle.area.specs.Answers.{areaAnswer, containsAnswer};
-
-// The largest coordinate of a ring.
-pub const COORDINATE_LIMIT: u16 = 8192;
-
-// The largest number of points of a ring.
-pub const POINT_LIMIT: usize = 67108864;
 
 // What `area` answers.
 pub enum AreaAnswer {

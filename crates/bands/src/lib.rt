@@ -8,7 +8,7 @@ use isoringbuilder::SecondReport;
 use isoringbuilder::link_words;
 use isoringbuilder::open_words;
 use isoringbuilder::point_words;
-use packing::RECORD_STRIDE;
+use limits::RECORD_STRIDE;
 use packing::clear;
 use packing::write_rings;
 use scan::Counts;

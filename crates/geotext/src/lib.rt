@@ -1,4 +1,6 @@
 // The text of a coordinate, a point and a ring as bytes, how long each is, and how long the text of a checked ring set is.
+use limits::NO_OWNER;
+use limits::POLYGON;
 use ringset::Record;
 use ringset::record_at;
 ghost use mathlib.Core.Path.{_≡_};
@@ -27,9 +29,6 @@ const CLOSING_BRACKET: u8 = 93;
 
 // The digit 0.
 const ZERO: u8 = 48;
-
-// The owner of a dropped hole.
-const NO_OWNER: u32 = 4294967295;
 
 // The bytes of a text without polygons.
 const FRAME_LENGTH: u64 = 40;
@@ -178,7 +177,7 @@ pub fn share_of(points: &[u16], record: Record) -> u64
     requires { ⌜ shapeRefused (now points) «record» ≡ false ⌝ }
     ensures { λ r. ⌜ r ≡ recordShare (now (points .entry)) «record» ⌝ }
 {
-    if record.class == 0 {
+    if record.class == POLYGON {
         return ring_length(points, record.first, record.count) + 3;
     }
     if record.owner == NO_OWNER {

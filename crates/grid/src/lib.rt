@@ -1,10 +1,8 @@
 // Whether a grid fits: both sides within the limit, and a value for each sample.
 use error::Refusal;
+use limits::SIDE_LIMIT;
 ghost use mathlib.Core.Path.{_≡_};
 ghost use Rattle.grid.specs.Grid.{gridFit};
-
-// The most columns and the most rows of a grid.
-pub const SIDE_LIMIT: usize = 4096;
 
 // Whether a grid can be scanned.
 pub enum GridFit {

@@ -4,7 +4,7 @@ use cells::Level;
 use error::Refusal;
 use grid::GridFit;
 use grid::grid_fit;
-use packing::RECORD_STRIDE;
+use limits::RECORD_STRIDE;
 use packing::clear;
 use packing::write_rings;
 use scan::TILES;

@@ -7,7 +7,7 @@ use isoringbuilder::answer_for;
 use isoringbuilder::link_words;
 use isoringbuilder::open_words;
 use isoringbuilder::run_pass;
-use packing::RECORD_STRIDE;
+use limits::RECORD_STRIDE;
 use packing::clear;
 use plotting::write_lines;
 use smoothing::Placement;

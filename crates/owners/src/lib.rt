@@ -2,6 +2,10 @@
 // Both searches go through the rings by number: rings whose numbers are near lie near each other, and the ladder passes over those that lie apart.
 use extents::Extent;
 use extents::Ladder;
+use limits::HOLE;
+use limits::NO_OWNER;
+use limits::POLYGON;
+use limits::RECORD_STRIDE;
 ghost use mathlib.Core.Path.{_≡_};
 ghost use Prim.Native.Nat.{_*_, _≤_, _<_};
 ghost use lib.ListN.{length, getD};
@@ -11,15 +15,6 @@ ghost use Rattle.extents.specs.Ladders.{itemExtent, Raised, Chunked};
 ghost use Rattle.extents.specs.Records.{recordRing, RingsThere, Permutes, rankOf, Filed};
 ghost use Rattle.owners.specs.Owned.{classIn, Classed, ownerIn, Owned};
 ghost use Rattle.owners.specs.Searched.{takesOther, evenlyTaken, bettered, firstTaker, RankIs, Ranked};
-
-// The class of a polygon, in a directory record.
-const POLYGON: u32 = 0;
-
-// The class of an interior, in a directory record.
-const INTERIOR: u32 = 1;
-
-// The owner of a ring that has none, in a directory record.
-const NO_OWNER: u32 = 4294967295;
 
 // A word of a table as a number.
 fn word(table: &[u32], i: usize) -> usize
@@ -67,10 +62,10 @@ pub fn record_takes(
     requires { ⌜ RingsThere (now points) (now directory) n × Chunked (now points) (now table) chunks × (r < n) × (at < n) ⌝ }
     ensures { λ b. ⌜ b ≡ takes (recordRing (now (points .entry)) (now (directory .entry)) r) (recordRing (now (points .entry)) (now (directory .entry)) at) ⌝ }
 {
-    let outer_first = word(directory, 4 * r);
-    let outer_count = word(directory, 4 * r + 1);
-    let first = word(directory, 4 * at);
-    let count = word(directory, 4 * at + 1);
+    let outer_first = word(directory, RECORD_STRIDE * r);
+    let outer_count = word(directory, RECORD_STRIDE * r + 1);
+    let first = word(directory, RECORD_STRIDE * at);
+    let count = word(directory, RECORD_STRIDE * at + 1);
     taking::takes(
         points,
         outer_first,
@@ -142,7 +137,7 @@ pub fn class_of(
     if even_takers(points, directory, table, n, rings, chunks, number) {
         return POLYGON;
     }
-    INTERIOR
+    HOLE
 }
 
 // The class of each of the first `n` records: 0 for a polygon, whose ring an even number of other rings take, and 1 for an interior.
@@ -160,7 +155,7 @@ pub fn class_all(
     let mut i = 0;
     while i < n {
         let at = rank_at(table, n, i) as usize;
-        directory[4 * at + 2] = class_of(points, directory, table, n, rings, chunks, i);
+        directory[RECORD_STRIDE * at + 2] = class_of(points, directory, table, n, rings, chunks, i);
         i += 1;
     }
 }
@@ -184,7 +179,7 @@ fn better(
         return best;
     }
     let r = rank as usize;
-    if directory[4 * r + 2] != POLYGON {
+    if directory[RECORD_STRIDE * r + 2] != POLYGON {
         return best;
     }
     if record_takes(points, directory, table, n, chunks, r, at) {
@@ -232,7 +227,7 @@ pub fn owner_of(
     ensures { λ o. ⌜ o ≡ ownerIn (now (points .entry)) (now (directory .entry)) n (rankOf (now (table .entry)) n number) ⌝ }
 {
     let rank = rank_at(table, n, number);
-    if directory[4 * (rank as usize) + 2] == POLYGON {
+    if directory[RECORD_STRIDE * (rank as usize) + 2] == POLYGON {
         return rank;
     }
     first_taker(points, directory, table, n, rings, chunks, number)
@@ -253,7 +248,7 @@ pub fn own_all(
     let mut i = 0;
     while i < n {
         let at = rank_at(table, n, i) as usize;
-        directory[4 * at + 3] = owner_of(points, directory, table, n, rings, chunks, i);
+        directory[RECORD_STRIDE * at + 3] = owner_of(points, directory, table, n, rings, chunks, i);
         i += 1;
     }
 }

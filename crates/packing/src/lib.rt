@@ -3,6 +3,9 @@
 use lent::MARK;
 use lent::put;
 use lent::word;
+use limits::LINE;
+use limits::NO_OWNER;
+use limits::RECORD_STRIDE;
 ghost use mathlib.Core.Path.{_≡_};
 ghost use Prim.Native.Nat.{_%_, _^_};
 ghost use lib.ListN.{set};
@@ -10,15 +13,6 @@ ghost use lib.Seq.{sets};
 ghost use Rattle.machine.specs.Machine.{linkNext};
 ghost use Rattle.machine.specs.Walk.{pointWords, walkPoints, recordWords, walkRecords};
 ghost use Rattle.packing.specs.Cleared.{cleared};
-
-// The words of a directory record: first point, point count, class, owner.
-pub const RECORD_STRIDE: usize = 4;
-
-// The class of a bare ring, in a directory record.
-const BARE_RING: u32 = 2;
-
-// The owner of a ring that has none, in a directory record.
-const NO_OWNER: u32 = 4294967295;
 
 // Stores a word of the points. Past the end nothing is stored.
 fn put_coordinate(points: &mut [u16], i: usize, value: u16)
@@ -64,7 +58,7 @@ pub fn put_record(directory: &mut [u32], at: usize, first: u64, count: u64)
     if at < directory.len() {
         put(directory, at, word_of(first));
         put(directory, at + 1, word_of(count));
-        put(directory, at + 2, BARE_RING);
+        put(directory, at + 2, LINE);
         put(directory, at + 3, NO_OWNER);
     }
 }

@@ -4,7 +4,7 @@ use cells::Level;
 use cells::indexed_point;
 use lent::MARK;
 use lent::word;
-use packing::RECORD_STRIDE;
+use limits::RECORD_STRIDE;
 use packing::next_link;
 use packing::put_record;
 use smoothing::Placement;

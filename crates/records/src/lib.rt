@@ -10,6 +10,7 @@ use contour::ring_set_faulty;
 use contour::write_geojson;
 use geojson::TextAnswer;
 use isoringbuilder::Built;
+use limits::RECORD_STRIDE;
 pub use ringrecord::Fate;
 pub use ringrecord::RingRecord;
 use ringrecord::records_from_words;
@@ -27,9 +28,6 @@ ghost use Rattle.linebuilder.specs.Lines.{LinesBuilt};
 ghost use Rattle.ringrecord.specs.Copies.{wordsFrom, wordsAfter};
 ghost use Rattle.smoothing.specs.Values.{placingOf};
 ghost use Rattle.records.specs.Over.{lentWords, ringsIn, OverWords, OverRecords, readWords};
-
-// The words of a directory record: first point, point count, class, owner.
-const RECORD_STRIDE: usize = 4;
 
 // How many words the word form is lent, where there are so many words and records: four a record, as far as there are any.
 fn lent_words(words: usize, records: usize) -> usize

@@ -1,5 +1,6 @@
 // Rings become regions: the classes and owners of a contour, and the order, classes and owners of a band, over points and point counts already written.
 use filing::file;
+use limits::RECORD_STRIDE;
 use noting::note_high;
 use noting::note_rings;
 use owners::class_all;
@@ -28,7 +29,7 @@ fn sort_first(directory: &mut [u32], n: usize, scratch: &mut [u32])
     requires { ⌜ (4 * n ≤ length (now directory)) × (4 * n ≤ length (now scratch)) ⌝ }
     ensures { λ _. ⌜ now (directory .exit) ≡ sortedFirst (now (directory .entry)) n ⌝ }
 {
-    sort_records(&mut directory[..4 * n], scratch);
+    sort_records(&mut directory[..RECORD_STRIDE * n], scratch);
 }
 
 // The records of a band's `n` rings, in its sorted order: sorted by the low 32 bits of the keys, and then, where equal ones keep their order, by the rest of

@@ -1,6 +1,11 @@
 // A directory record as a struct that holds its fate, the way from document 01's four words to it and back, and the copies of a whole directory from words to
 // records and back. A copy is all or nothing and asks nothing of the caller.
 use lent::put;
+use limits::HOLE;
+use limits::LINE;
+use limits::NO_OWNER;
+use limits::POLYGON;
+use limits::RECORD_STRIDE;
 use ringset::record_at;
 ghost use mathlib.Core.Path.{_≡_};
 ghost use lib.ListN.{length};
@@ -9,19 +14,6 @@ ghost use Rattle.scope.specs.Contour.{classWord, ownerWord};
 ghost use Rattle.scope.specs.Room.{directoryWords};
 ghost use Rattle.ringrecord.specs.Records.{fateOf, wordsOf, fateFrom, recordFrom, recordIn};
 ghost use Rattle.ringrecord.specs.Copies.{roomFor, copiedRings, recordsAfter, wordsAfter};
-
-// The words of a directory record: first point, point count, class, owner.
-const RECORD_STRIDE: usize = 4;
-
-// The class words of a polygon, of a hole, and of a line or bare ring.
-const POLYGON: u32 = 0;
-
-const HOLE: u32 = 1;
-
-const LINE: u32 = 2;
-
-// The owner word of a ring that has none.
-const NO_OWNER: u32 = 4294967295;
 
 // What became of a ring.
 pub enum Fate {

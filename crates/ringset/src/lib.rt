@@ -1,5 +1,11 @@
 // The check of a ring set: whether words are points and a directory such as a reader takes, which is number 9 of document 01. It takes any words whatever.
 use lent::word;
+use limits::COORDINATE_LIMIT;
+use limits::HOLE;
+use limits::NO_OWNER;
+use limits::POINT_LIMIT;
+use limits::POLYGON;
+use limits::RECORD_STRIDE;
 ghost use mathlib.Core.Path.{_≡_};
 ghost use Prim.Native.Nat.{_<_, _%_};
 ghost use lib.ListN.{length};
@@ -7,18 +13,6 @@ ghost use Rattle.scope.specs.Limits.{coordinateLimit};
 ghost use Rattle.scope.specs.Area as Area;
 ghost use Rattle.scope.specs.GeoJson.{firstAt, countAt, classAt, ownerAt, unclosed, recordRefused, ringSetRefused};
 ghost use Rattle.ringset.specs.OneRecord.{shapeRefused, ownerRefused};
-
-// The words of a directory record: first point, point count, class, owner.
-const RECORD_STRIDE: usize = 4;
-
-// The largest coordinate of a ring.
-const COORDINATE_LIMIT: u16 = 8192;
-
-// The largest number of points of a ring.
-const POINT_LIMIT: usize = 67108864;
-
-// The owner of a dropped hole.
-const NO_OWNER: u32 = 4294967295;
 
 // A directory record.
 pub struct Record {
@@ -87,7 +81,7 @@ pub fn shape_faulty(points: &[u16], record: Record) -> bool
     if unclosed(ring) {
         return true;
     }
-    1 < record.class
+    HOLE < record.class
 }
 
 // Whether number 9 refuses record `k` for its owner: a polygon owns itself, a hole has a polygon's number or `NO_OWNER`. The class of the record that the
@@ -95,10 +89,10 @@ pub fn shape_faulty(points: &[u16], record: Record) -> bool
 pub fn owner_faulty(record: Record, rings: u32, k: u32, owner_class: u32) -> bool
     ensures { λ r. ⌜ r ≡ ownerRefused «record» rings k «owner_class» ⌝ }
 {
-    if record.class == 0 {
+    if record.class == POLYGON {
         return record.owner != k;
     }
-    if record.class != 1 {
+    if record.class != HOLE {
         return false;
     }
     if record.owner == NO_OWNER {
@@ -107,7 +101,7 @@ pub fn owner_faulty(record: Record, rings: u32, k: u32, owner_class: u32) -> boo
     if rings <= record.owner {
         return true;
     }
-    owner_class != 0
+    owner_class != POLYGON
 }
 
 // Whether number 9 refuses record `k` of a set of as many rings as are stated.
