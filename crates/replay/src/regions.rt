@@ -1,0 +1,42 @@
+// A line of the text of contours and bands: sides, samples, two thresholds, the set of the contour at the first, the set of the band between both, and the points
+// of the band, which begin with the contour's.
+use crate::calls::VALUES;
+use crate::calls::case_holds;
+use crate::cases::Build;
+use crate::grids::PLAIN;
+use crate::grids::after_records;
+use crate::grids::case_of;
+use crate::grids::counts_of;
+use crate::grids::pair_of;
+use crate::grids::sample_count;
+use crate::tables::after;
+use crate::tables::put_float;
+use crate::tables::word;
+
+// Stores this many samples.
+fn fill(numbers: &[u32], count: usize, values: &mut [f64; VALUES]) {
+    for i in 0..count {
+        put_float(values, i, word(numbers, i) as f64);
+    }
+}
+
+// The thresholds of a line, and what follows them.
+fn after_samples(line: &[u32]) -> &[u32] {
+    after(line, 2 + sample_count(word(line, 0), word(line, 1)))
+}
+
+// Whether contour and band of this line are replayed without a difference.
+pub fn regions_hold(line: &[u32]) -> bool {
+    let pair = after_samples(line);
+    let contour = after(pair, 2);
+    let band = after_records(contour);
+    let listed = after_records(band);
+    let list = pair_of(word(pair, 0) as f64, word(pair, 1) as f64);
+    let contour_case = case_of(Build::Contour, line, counts_of(contour), list, PLAIN);
+    let band_case = case_of(Build::Band, line, counts_of(band), list, PLAIN);
+    let mut values = [0.0f64; VALUES];
+    fill(after(line, 2), contour_case.samples, &mut values);
+    (listed.len() == band_case.room.worded)
+        & case_holds(contour_case, after(contour, 4), listed, &values)
+        & case_holds(band_case, after(band, 4), listed, &values)
+}

@@ -1,0 +1,127 @@
+// A line of the rings' text: sides, a number a row, S, H and R, and for each ring its point count and its points.
+use crate::calls::VALUES;
+use crate::calls::case_holds;
+use crate::cases::Build;
+use crate::cases::Case;
+use crate::cases::Counts;
+use crate::grids::PLAIN;
+use crate::grids::case_of;
+use crate::grids::pair_of;
+use crate::tables::after;
+use crate::tables::put;
+use crate::tables::put_float;
+use crate::tables::word;
+use crate::text::NUMBERS;
+use std::num::wrapping_add_u32;
+use std::num::wrapping_add_usize;
+
+// A sample of rows that are a number each, in which sample x counts 2^x.
+fn sample(rows: &[u32], dx: usize, i: usize) -> u32 {
+    if dx == 0 {
+        return 0;
+    }
+    word(rows, i / dx) >> (i % dx % 32) as u32 & 1
+}
+
+// Stores this many samples of rows of dx.
+fn fill_rows(rows: &[u32], dx: usize, count: usize, values: &mut [f64; VALUES]) {
+    for i in 0..count {
+        put_float(values, i, sample(rows, dx, i) as f64);
+    }
+}
+
+// Stores the record of a ring that is bare and has no owner.
+fn put_record(records: &mut [u32; NUMBERS], ring: u32, first: u32, count: u32) {
+    let at = 4 * (ring as usize);
+    put(records, at, first);
+    put(records, at + 1, count);
+    put(records, at + 2, 2);
+    put(records, at + 3, 4294967295);
+}
+
+// How far the rings of a line have been taken apart: those that have begun, the words of points that have come, and those that are left of the last ring.
+struct Taken {
+    rings: u32,
+    words: u32,
+    left: u32,
+}
+
+// Takes the next number of the rings: a ring's point count, or a word of its points.
+fn take(
+    taken: Taken,
+    number: u32,
+    records: &mut [u32; NUMBERS],
+    listed: &mut [u32; NUMBERS],
+) -> Taken {
+    if taken.left == 0 {
+        put_record(records, taken.rings, taken.words / 2, number);
+        Taken {
+            rings: wrapping_add_u32(taken.rings, 1),
+            words: taken.words,
+            left: wrapping_add_u32(number, number),
+        }
+    } else {
+        put(listed, taken.words as usize, number);
+        Taken {
+            rings: taken.rings,
+            words: wrapping_add_u32(taken.words, 1),
+            left: taken.left - 1,
+        }
+    }
+}
+
+// Stores the records and the points of the rings whose numbers these are.
+fn take_rings(rings: &[u32], records: &mut [u32; NUMBERS], listed: &mut [u32; NUMBERS]) -> Taken {
+    let mut taken = Taken {
+        rings: 0,
+        words: 0,
+        left: 0,
+    };
+    for i in 0..rings.len() {
+        let next = take(taken, word(rings, i), records, listed);
+        taken = next;
+    }
+    taken
+}
+
+// The counts of a grid at one threshold from S, H and R.
+fn counts_of(set: &[u32]) -> Counts {
+    let segments = word(set, 0);
+    let rings = word(set, 2);
+    Counts {
+        segments,
+        peak: word(set, 1),
+        rings,
+        points: wrapping_add_u32(segments, rings),
+    }
+}
+
+// Whether the rings that were taken are whole, and as many as counted.
+fn is_whole(taken: Taken, counts: Counts) -> bool {
+    taken.left == 0
+        && taken.rings == counts.rings
+        && taken.words == wrapping_add_u32(counts.points, counts.points)
+}
+
+// Whether the case holds with these records and points.
+fn taken_holds(
+    case: Case,
+    records: &[u32; NUMBERS],
+    listed: &[u32; NUMBERS],
+    values: &[f64; VALUES],
+) -> bool {
+    case_holds(case, records, listed, values)
+}
+
+// Whether the grid of this line is replayed without a difference.
+pub fn rings_hold(line: &[u32]) -> bool {
+    let set = after(line, 2 + word(line, 1) as usize);
+    let counts = counts_of(set);
+    let case = case_of(Build::Rings, line, counts, pair_of(1.0, 1.0), PLAIN);
+    let mut records = [0u32; NUMBERS];
+    let mut listed = [0u32; NUMBERS];
+    let taken = take_rings(after(set, 3), &mut records, &mut listed);
+    let mut values = [0.0f64; VALUES];
+    fill_rows(after(line, 2), case.dx, case.samples, &mut values);
+    is_whole(taken, counts) & taken_holds(case, &records, &listed, &values)
+}
