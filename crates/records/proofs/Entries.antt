@@ -217,7 +217,7 @@ module _ {M : Type 1} {𝓤 : URA M} {H : Heap 𝓤} {A : Atoms 𝓤} {K : Type 
       land t (found t (local 16) (stop t)) (init t (L 11 16) refl (tt, tt)) $
       nothing t $ move t (4 ∷ 0 ∷ []) $ fjoin t $ move t (1 ∷ 0 ∷ []) $ fjoin t $ move t (7 ∷ 0 ∷ []) $ fjoin t $ move t (7 ∷ 0 ∷ []) $ fjoin t $ move t (7 ∷ 0 ∷ []) $ fjoin t $ pads t Ps $
       nothing t $ move t (3 ∷ 0 ∷ []) $ join t $ move t (2 ∷ 0 ∷ []) $ join t $ move t (2 ∷ 0 ∷ []) $ join t $ move t (2 ∷ 0 ∷ []) $ join t $ move t (2 ∷ 0 ∷ []) $ join t $ move t (2 ∷ 0 ∷ []) $ ties t ts $
-      end r n b ls ks ps ds (ws .1 .1 .0) (over-records (λ directory directory′. Words ls ks ps r directory directory′) over refl long₄ n-is (copied .1)) is long₁ long₂ long₃ long₄ long₅))))))))))
+      end r n b ls ks ps ds (ws .1 .1 .0) (over-records (λ directory directory′. Words ls ks ps r directory directory′) over refl n-is (copied .1)) is long₁ long₂ long₃ long₄ long₅))))))))))
     where
       local : (k : ℕ) → getD E (i + k) (noLocal 𝓤 H) ≡ getD (locals 𝓤 H (Frame T j) bs) k (noLocal 𝓤 H)
       local = spot 𝓤 H E i here

@@ -7,7 +7,7 @@ use Prim.Native.Nat.{ℕ, _+_, _*_, _≤_, min}
 use native.Mathlib.Omega.{arith}
 use lib.Dec.{ltb}
 use lib.ListN.{length, take, drop, length-append}
-use lib.Seq.{length-take-le, take-at, drop-at}
+use lib.Seq.{length-take-le, length-front, take-at, drop-at}
 use borrow.Author.Tests.{ltb-false}
 use Rattle.error.specs.declared.Refusal.the-variants.{PointsShort, DirectoryShort}
 use Rattle.scope.specs.Limits.{recordStride}
@@ -37,22 +37,23 @@ lent-by-records words records = omega arith
 pub over-words : (Words : List ℕ → List ℕ → Type 0) {n lent room : ℕ} (words part : List ℕ) → lent ≡ lentWords (length words) room → length part ≡ length (take lent words)
     → Words (take lent words) part → directoryWords n ≤ length (take lent words) → OverWords Words n room words (part ++ drop lent words)
 over-words Words {n} {lent} {room} words part is long built fit = record {
-  built = rw (sym is, take-at part (drop lent words) lent as-long) built;
+  built = rw (sym is, take-at part (drop lent words) lent part-long) built;
   rings-fit = rw (sym is) (omega (arith, fit, lent-is));
-  rest = rw (sym is) (drop-at part (drop lent words) lent as-long);
+  rest = rw (sym is) (drop-at part (drop lent words) lent part-long);
+  as-long = length-front words part lent long;
 }
   where
     lent-is : length (take lent words) ≡ lent
     lent-is = length-take-le lent words (rw is (lent-below (length words) room))
 
-    as-long : length part ≡ lent
-    as-long = long ∙ lent-is
+    part-long : length part ≡ lent
+    part-long = long ∙ lent-is
 
 -- with the records of the rings copied out of the words
-pub over-records : (Words : List ℕ → List ℕ → Type 0) {n m room : ℕ} {words words′ : List ℕ} {records records′ : List RingRecord} → OverWords Words n room words words′ → room ≡ length records → length words′ ≡ length words
+pub over-records : (Words : List ℕ → List ℕ → Type 0) {n m room : ℕ} {words words′ : List ℕ} {records records′ : List RingRecord} → OverWords Words n room words words′ → room ≡ length records
     → m ≡ n → records′ ≡ recordsAfter m words′ records → OverRecords Words n words words′ records records′
 unfolding recordsAfter directoryWords recordStride
-over-records Words {n} {m} {room} {words} {words′} {records} over as-many long same is = record {
+over-records Words {n} {m} {room} {words} {words′} {records} over as-many same is = record {
   over-words = rw (sym as-many) over;
   records-are = is ∙ rw (same, all-copied);
 }
@@ -60,7 +61,7 @@ over-records Words {n} {m} {room} {words} {words′} {records} over as-many long
     all-copied : copiedRings n (length words′) (length records) ≡ n
     all-copied =
         all-rings words′ records n
-        (omega (arith, over .rings-fit, lent-below (length words) room, long))
+        (omega (arith, over .rings-fit, lent-below (length words) room, over .as-long))
         (omega (arith, over .rings-fit, lent-by-records (length words) room, as-many))
 
 -- ---- the rings that are given have words

@@ -30,6 +30,7 @@ pub record OverWords (Words : List ℕ → List ℕ → Type 0) (n room : ℕ) (
   pub built : Words (take (lentWords (length words) room) words) (take (lentWords (length words) room) words′)
   pub rings-fit : directoryWords n ≤ lentWords (length words) room
   pub rest : drop (lentWords (length words) room) words′ ≡ drop (lentWords (length words) room) words
+  pub as-long : length words′ ≡ length words
 
 -- a build over records: that, and the records of the rings are those of the words at exit, written from the first record on
 pub record OverRecords (Words : List ℕ → List ℕ → Type 0) (n : ℕ) (words words′ : List ℕ) (records records′ : List RingRecord) : Type 0 where
