@@ -1,8 +1,9 @@
 -- The sides past the ones that a `match` names: what the last arm gives is theirs. By cases on the number. Assumes nothing.
 use mathlib.Core.Path.{_≡_, refl}
-use mathlib.Core.Bool.{false}
+use mathlib.Core.Bool.{true, false}
 use Prim.Native.Nat.{ℕ, zero, suc}
-use Rattle.scope.specs.Cells.{Bottom}
+use native.Mathlib.Omega.{arith}
+use Rattle.scope.specs.Cells.{Top, Bottom}
 use Rattle.machine.specs.Machine.{Entry, sideWord}
 use Rattle.drawing.specs.Values.{sideOf, isMet, lineAt}
 
@@ -30,3 +31,10 @@ the-word-of-a-column dx c zero a b = absurd (a refl)
 the-word-of-a-column dx c (suc zero) a b = absurd (b refl)
 the-word-of-a-column dx c (suc (suc zero)) a b = refl
 the-word-of-a-column dx c (suc (suc (suc n))) a b = refl
+
+-- a side that is met and is not the left
+pub the-other-side-met : (n : ℕ) → isMet (sideOf n) ≡ true → (n ≡ 0 → ⊥) → sideOf n ≡ Top
+the-other-side-met zero met a = absurd (a refl)
+the-other-side-met (suc zero) met a = let never : _≡_ {A = ℕ} 0 1 = cc in absurd (omega arith)
+the-other-side-met (suc (suc zero)) met a = refl
+the-other-side-met (suc (suc (suc n))) met a = let never : _≡_ {A = ℕ} 0 1 = cc in absurd (omega arith)

@@ -100,7 +100,7 @@ fn word_at(dx: u32, c: u32, side: u8) -> usize
 }
 
 // A stroke of a cell in column `c`, drawn as the next link by the rule that its sides call for: by whether a line may end where it starts, and whether one may
-// start where it ends.
+// start where it ends. `connect` is called in two places so that the compiler leaves it a call, and puts the rest into the arms of `draw_cell`.
 fn draw_stroke(
     lines: &mut [u32],
     links: &mut [u32],
@@ -128,7 +128,11 @@ fn draw_stroke(
     let we = word_at(dx, c, to);
     if meets(from) {
         if meets(to) {
-            let progress = connect(lines, links, p, dx, k, s, f, g);
+            if from == LEFT {
+                let progress = connect(lines, links, p, dx, k, at.left, met.left, g);
+                return Run { progress, next };
+            }
+            let progress = connect(lines, links, p, dx, k, at.top, met.top, g);
             return Run { progress, next };
         }
         let progress = append(lines, links, p, dx, k, s, f, e, we);
