@@ -1,20 +1,19 @@
--- What follows of records and of the words that they stand for, by induction on the records or on four words at a time: lengths, single words, what comes back
+-- What follows of records and of the words that they stand for, by induction on the records or on four words at a time: lengths, and what comes back
 -- of words and of records. Assumes nothing.
-use mathlib.Core.Path.{_≡_, refl, sym, ap, _∙_}
+use mathlib.Core.Path.{_≡_, refl, ap}
 use mathlib.Core.Bool.{Bool, true, false, cond}
 use mathlib.Core.List.{List, [], _∷_, _++_}
 use Prim.Native.Nat.{ℕ, zero, suc, _+_, _*_, _≤_, _<_}
 use native.Mathlib.Nat.{zero-add, add-zero}
 use native.Mathlib.Omega.{arith}
 use lib.Dec.{eqb}
-use lib.ListN.{length, getD, take, List·getD-append, List·getD-eq-default}
-use lib.Seq.{length-take-le, take-at, getD-take, getD-append-add}
+use lib.ListN.{length, getD, take}
+use lib.Seq.{length-take-le, getD-take}
 use borrow.Author.Tests.{eqb-true, eqb-false, ne-eqb}
 use Rattle.scope.specs.Limits.{recordStride, noOwner}
 use Rattle.scope.specs.Room.{directoryWords}
-use Rattle.scope.specs.Tables.{written}
 use Rattle.scope.specs.Contour.{classWord, ownerWord}
-use Rattle.scope.specs.GeoJson.{firstAt, countAt, classAt, ownerAt, ringSetRefused}
+use Rattle.scope.specs.GeoJson.{classAt, ownerAt, ringSetRefused}
 use Rattle.ringset.proofs.Laws.{SoundRecord, sound}
 use Rattle.ringrecord.specs.declared.Fate.{Fate}
 use Rattle.ringrecord.specs.declared.Fate.the-variants as fate-is
@@ -41,12 +40,6 @@ as-many-records (suc n) (a ∷ b ∷ c ∷ d ∷ ws) h = ap suc (as-many-records
 
 -- ---- records one after the other
 
--- four words in front are a record in front
-pub record-in-front : (first count class owner : ℕ) (words : List ℕ) →
-    recordsFrom (first ∷ count ∷ class ∷ owner ∷ words) ≡ recordFrom first count class owner ∷ recordsFrom words
-unfolding recordsFrom
-record-in-front first count class owner words = refl
-
 -- the words of whole records in front are these records in front
 pub records-append : (m : ℕ) (xs ys : List ℕ) → length xs ≡ directoryWords m → recordsFrom (xs ++ ys) ≡ recordsFrom xs ++ recordsFrom ys
 unfolding recordsFrom directoryWords recordStride
@@ -56,73 +49,6 @@ records-append m (a ∷ b ∷ []) ys h = absurd (omega arith)
 records-append m (a ∷ b ∷ c ∷ []) ys h = absurd (omega arith)
 records-append zero (a ∷ b ∷ c ∷ d ∷ xs) ys h = absurd (omega arith)
 records-append (suc m) (a ∷ b ∷ c ∷ d ∷ xs) ys h = rw (records-append m xs ys (omega arith))
-
--- ---- single words
-
--- a record's words in front of others
-module _ (k : ℕ) (r : RingRecord) (words : List ℕ) (i : ℕ) where
-  word-of : i < 4 → getD (wordsOf k r ++ words) i 0 ≡ getD (wordsOf k r) i 0
-  unfolding wordsOf
-  word-of h = List·getD-append (wordsOf k r) words 0 i h
-
-  word-behind : getD (wordsOf k r ++ words) (4 + i) 0 ≡ getD words i 0
-  unfolding wordsOf
-  word-behind = getD-append-add (wordsOf k r) words i 0
-
--- word i of record k, where the first record has number j
-word-in : (j k i : ℕ) (rs : List RingRecord) (d : RingRecord) → i < 4 → k < length rs →
-    getD (directoryFrom j rs) (4 * k + i) 0 ≡ getD (wordsOf (j + k) (getD rs k d)) i 0
-unfolding directoryFrom
-word-in j k i [] d h m = absurd (omega arith)
-word-in j zero i (r ∷ rs) d h m = rw (zero-add, add-zero) (word-of j r (directoryFrom (suc j) rs) i h)
-word-in j (suc k) i (r ∷ rs) d h m =
-    let e : 4 * suc k + i ≡ 4 + (4 * k + i) = omega arith in
-    let f : j + suc k ≡ suc j + k = omega arith in
-    rw (e, f, word-behind j r (directoryFrom (suc j) rs) (4 * k + i)) (word-in (suc j) k i rs d h (omega arith))
-
-module _ (rs : List RingRecord) (k : ℕ) where
-  module _ (d : RingRecord) (within : k < length rs) where
-    word-at : (i : ℕ) → i < 4 → getD (directoryOf rs) (recordStride * k + i) 0 ≡ getD (wordsOf k (getD rs k d)) i 0
-    unfolding directoryOf recordStride
-    word-at i h = rw zero-add at (word-in 0 k i rs d h within)
-
-    pub first-at : firstAt (directoryOf rs) k ≡ getD rs k d .first
-    unfolding firstAt wordsOf
-    first-at = rw add-zero at (word-at 0 (omega arith))
-
-    pub count-at : countAt (directoryOf rs) k ≡ getD rs k d .count
-    unfolding countAt wordsOf
-    count-at = word-at 1 (omega arith)
-
-    pub class-at : classAt (directoryOf rs) k ≡ classWord (fateOf (getD rs k d .fate))
-    unfolding classAt wordsOf
-    class-at = word-at 2 (omega arith)
-
-    pub owner-at : ownerAt (directoryOf rs) k ≡ ownerWord k (fateOf (getD rs k d .fate))
-    unfolding ownerAt wordsOf
-    owner-at = word-at 3 (omega arith)
-
-  -- past the last record every word is 0
-  module _ (past : length rs ≤ k) where
-    word-past : (i : ℕ) → getD (directoryOf rs) (recordStride * k + i) 0 ≡ 0
-    unfolding directoryOf directoryWords recordStride
-    word-past i = List·getD-eq-default (directoryOf rs) 0 (omega (arith, as-many-words 0 rs))
-
-    pub first-past : firstAt (directoryOf rs) k ≡ 0
-    unfolding firstAt
-    first-past = rw add-zero at (word-past 0)
-
-    pub count-past : countAt (directoryOf rs) k ≡ 0
-    unfolding countAt
-    count-past = word-past 1
-
-    pub class-past : classAt (directoryOf rs) k ≡ 0
-    unfolding classAt
-    class-past = word-past 2
-
-    pub owner-past : ownerAt (directoryOf rs) k ≡ 0
-    unfolding ownerAt
-    owner-past = word-past 3
 
 -- ---- words that come back
 

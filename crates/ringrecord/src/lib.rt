@@ -33,7 +33,7 @@ pub struct RingRecord {
 }
 
 // The class word of a fate.
-pub fn class_word(fate: Fate) -> u32
+fn class_word(fate: Fate) -> u32
     ensures { λ r. ⌜ r ≡ classWord (fateOf fate) ⌝ }
 {
     match fate {
@@ -45,7 +45,7 @@ pub fn class_word(fate: Fate) -> u32
 }
 
 // The owner word of a fate, in the record of number `k`.
-pub fn owner_word(k: u32, fate: Fate) -> u32
+fn owner_word(k: u32, fate: Fate) -> u32
     ensures { λ r. ⌜ r ≡ ownerWord k (fateOf fate) ⌝ }
 {
     match fate {
@@ -57,7 +57,7 @@ pub fn owner_word(k: u32, fate: Fate) -> u32
 }
 
 // The fate that class and owner words stand for.
-pub fn fate_from(class: u32, owner: u32) -> Fate
+fn fate_from(class: u32, owner: u32) -> Fate
     ensures { λ r. ⌜ r ≡ fateFrom class owner ⌝ }
 {
     if class == POLYGON {
@@ -73,7 +73,7 @@ pub fn fate_from(class: u32, owner: u32) -> Fate
 }
 
 // The record that four words stand for.
-pub fn record_from(first: u32, count: u32, class: u32, owner: u32) -> RingRecord
+fn record_from(first: u32, count: u32, class: u32, owner: u32) -> RingRecord
     ensures { λ r. ⌜ r ≡ recordFrom first count class owner ⌝ }
 {
     RingRecord {
