@@ -246,7 +246,7 @@ pub fn band_point_words(drawing: BandDrawing) -> usize
 }
 
 // The points and the bare records of the rings in the links, stored from a word of each output on.
-pub fn write_behind(
+fn write_behind(
     links: &[u32],
     dx: u32,
     head: u32,

@@ -9,9 +9,10 @@ use lib.Ieee.{Float, nan}
 use lib.ListN.{length, getD}
 use Rattle.scope.specs.Terrain.{Sheet, atLeast, terrain}
 use Rattle.scope.specs.Drawing.{segmentCount, peak}
-use Rattle.scope.specs.Pairs.{sharedPairs}
+use Rattle.scope.specs.Pairs.{pairsSharedByCells}
 use Rattle.laws.proofs.Edges.{Outside}
-use Rattle.laws.proofs.Laws.{the-peak-is-low, the-peak-is-highest, the-peak-is-reached}
+use Rattle.laws.proofs.Laws.{the-peak-is-low}
+use Rattle.laws.proofs.Shared.{the-peak-is-highest-as-worded, the-peak-is-reached-as-worded}
 use Rattle.grid.specs.Grid.{gridFit}
 use Rattle.grid.specs.declared.GridFit.{GridFit}
 use Rattle.grid.specs.declared.GridFit.the-variants as fit-is
@@ -31,32 +32,32 @@ pub record LargestHalf (dx dy : ℕ) (pairs : ℕ → ℕ → ℕ) (h : ℕ) : T
   pub a-cell-has-as-many : (r : ℕ) × (c : ℕ) × (r ≤ dy) × (c ≤ dx) × (pairs r c ≡ 2 * h)
   pub is-low : h ≤ (dx + 2) / 2
 
--- the shared pairs of a sheet after each cell, and the more of two sheets
-abbrev pub pairsOf : Sheet → ℕ → ℕ → ℕ → ℕ
-pairsOf A dx r c = sharedPairs A dx r (suc c)
+-- the pairs of a sheet that a finished and an unfinished cell share after each cell, and the more of two sheets
+abbrev pub pairsOf : Sheet → ℕ → ℕ → ℕ → ℕ → ℕ
+pairsOf A dx dy r c = pairsSharedByCells A dx dy r (suc c)
 
-abbrev pub morePairs : Sheet → Sheet → ℕ → ℕ → ℕ → ℕ
-morePairs L U dx r c = max (pairsOf L dx r c) (pairsOf U dx r c)
+abbrev pub morePairs : Sheet → Sheet → ℕ → ℕ → ℕ → ℕ → ℕ
+morePairs L U dx dy r c = max (pairsOf L dx dy r c) (pairsOf U dx dy r c)
 
 module _ {dx dy : ℕ} where
-  the-peak-is : (A : Sheet) → Outside A dx dy → LargestHalf dx dy (pairsOf A dx) (peak A dx dy)
+  the-peak-is : (A : Sheet) → Outside A dx dy → LargestHalf dx dy (pairsOf A dx dy) (peak A dx dy)
   the-peak-is A out =
-      record { no-cell-has-more = the-peak-is-highest A out; a-cell-has-as-many = the-peak-is-reached A out; is-low = the-peak-is-low A out }
+      record { no-cell-has-more = the-peak-is-highest-as-worded A out; a-cell-has-as-many = the-peak-is-reached-as-worded A out; is-low = the-peak-is-low A out }
 
-  the-larger-peak-is : (L U : Sheet) → Outside L dx dy → Outside U dx dy → LargestHalf dx dy (morePairs L U dx) (max (peak L dx dy) (peak U dx dy))
+  the-larger-peak-is : (L U : Sheet) → Outside L dx dy → Outside U dx dy → LargestHalf dx dy (morePairs L U dx dy) (max (peak L dx dy) (peak U dx dy))
   the-larger-peak-is L U out-L out-U = record {
-    no-cell-has-more = λ r c hr hc. omega (arith, the-peak-is-highest L out-L r c hr hc, the-peak-is-highest U out-U r c hr hc);
+    no-cell-has-more = λ r c hr hc. omega (arith, the-peak-is-highest-as-worded L out-L r c hr hc, the-peak-is-highest-as-worded U out-U r c hr hc);
     a-cell-has-as-many = reached (decLe (peak L dx dy) (peak U dx dy));
     is-low = omega (arith, the-peak-is-low L out-L, the-peak-is-low U out-U);
   }
     where
-      reached : Dec (peak L dx dy ≤ peak U dx dy) → (r : ℕ) × (c : ℕ) × (r ≤ dy) × (c ≤ dx) × (morePairs L U dx r c ≡ 2 * max (peak L dx dy) (peak U dx dy))
+      reached : Dec (peak L dx dy ≤ peak U dx dy) → (r : ℕ) × (c : ℕ) × (r ≤ dy) × (c ≤ dx) × (morePairs L U dx dy r c ≡ 2 * max (peak L dx dy) (peak U dx dy))
       reached (yes lower) =
-          let w = the-peak-is-reached U out-U in
-          (w .0, w .1, w .2, w .3, omega (arith, w .4, the-peak-is-highest L out-L (w .0) (w .1) (w .2) (w .3)))
+          let w = the-peak-is-reached-as-worded U out-U in
+          (w .0, w .1, w .2, w .3, omega (arith, w .4, the-peak-is-highest-as-worded L out-L (w .0) (w .1) (w .2) (w .3)))
       reached (no higher) =
-          let w = the-peak-is-reached L out-L in
-          (w .0, w .1, w .2, w .3, omega (arith, w .4, the-peak-is-highest U out-U (w .0) (w .1) (w .2) (w .3)))
+          let w = the-peak-is-reached-as-worded L out-L in
+          (w .0, w .1, w .2, w .3, omega (arith, w .4, the-peak-is-highest-as-worded U out-U (w .0) (w .1) (w .2) (w .3)))
 
 -- a first report that answers a room answers the one that was to be given
 first-given : (fit : GridFit) (S H s h : ℕ) → reportFor fit (first-is.Room S H) ≡ first-is.Room s h → H ≡ h
@@ -69,15 +70,15 @@ module _ (values : List Float) (threshold : Float) (dx dy : ℕ) where
   abbrev A : Sheet
   A = terrain (atLeast threshold) values dx dy
 
-  at-threshold : (h : ℕ) → peak A dx dy ≡ h → LargestHalf dx dy (pairsOf (above values threshold dx dy) dx) h
-  at-threshold h same = subst (LargestHalf dx dy (pairsOf A dx)) same (the-peak-is A (terrain-outside (atLeast threshold) values dx dy))
+  at-threshold : (h : ℕ) → peak A dx dy ≡ h → LargestHalf dx dy (pairsOf (above values threshold dx dy) dx dy) h
+  at-threshold h same = subst (LargestHalf dx dy (pairsOf A dx dy)) same (the-peak-is A (terrain-outside (atLeast threshold) values dx dy))
 
-  pub first-report-peak : (s h : ℕ) → firstReport values threshold dx dy ≡ first-is.Room s h → LargestHalf dx dy (pairsOf (above values threshold dx dy) dx) h
+  pub first-report-peak : (s h : ℕ) → firstReport values threshold dx dy ≡ first-is.Room s h → LargestHalf dx dy (pairsOf (above values threshold dx dy) dx dy) h
   unfolding firstReport roomOf
   first-report-peak s h e = at-threshold h (first-given (gridFit (length values) dx dy) (segmentCount A dx dy) (peak A dx dy) s h e)
 
   pub second-report-peak : (lines links : List ℕ) {lines′ links′ : List ℕ} (s r h p : ℕ) → SecondReported values threshold dx dy lines links (second-is.Room s r h p) lines′ links′
-      → LargestHalf dx dy (pairsOf (above values threshold dx dy) dx) h
+      → LargestHalf dx dy (pairsOf (above values threshold dx dy) dx dy) h
   second-report-peak lines links s r h p k = at-threshold h (room-given (second-worked values threshold dx dy lines links k) .3)
 
 -- a band: the thresholds k and k + 1 of a list
@@ -88,17 +89,17 @@ module _ (values thresholds : List Float) (k dx dy : ℕ) where
   abbrev U : Sheet
   U = upperSheet values thresholds k dx dy
 
-  in-band : (h : ℕ) → max (peak L dx dy) (peak U dx dy) ≡ h → LargestHalf dx dy (morePairs L U dx) h
+  in-band : (h : ℕ) → max (peak L dx dy) (peak U dx dy) ≡ h → LargestHalf dx dy (morePairs L U dx dy) h
   in-band h same =
-      subst (LargestHalf dx dy (morePairs L U dx)) same
+      subst (LargestHalf dx dy (morePairs L U dx dy)) same
       (the-larger-peak-is L U (terrain-outside (atLeast (getD thresholds k nan)) values dx dy) (terrain-outside (atLeast (getD thresholds (suc k) nan)) values dx dy))
 
   pub band-first-report-peak : (s h : ℕ) → bandFirstReport values thresholds k dx dy ≡ first-is.Room s h
-      → LargestHalf dx dy (morePairs (lowerSheet values thresholds k dx dy) (upperSheet values thresholds k dx dy) dx) h
+      → LargestHalf dx dy (morePairs (lowerSheet values thresholds k dx dy) (upperSheet values thresholds k dx dy) dx dy) h
   unfolding bandFirstReport bandRoomOf
   band-first-report-peak s h e =
       in-band h (first-given (bandFit (length values) dx dy (length thresholds) k) (max (segmentCount L dx dy) (segmentCount U dx dy)) (max (peak L dx dy) (peak U dx dy)) s h e)
 
   pub band-second-report-peak : (lines links : List ℕ) {lines′ links′ : List ℕ} (s r h p : ℕ) → BandReported values thresholds k dx dy lines links (second-is.Room s r h p) lines′ links′
-      → LargestHalf dx dy (morePairs (lowerSheet values thresholds k dx dy) (upperSheet values thresholds k dx dy) dx) h
+      → LargestHalf dx dy (morePairs (lowerSheet values thresholds k dx dy) (upperSheet values thresholds k dx dy) dx dy) h
   band-second-report-peak lines links s r h p b = in-band h (room-given (report-worked b) .3)

@@ -9,25 +9,12 @@ use lib.Dec.{eqb, leb}
 use borrow.Author.Tests.{eq-eqb, ne-eqb, eqb-true, le-leb, lt-leb}
 use Rattle.scope.specs.Cells.{when}
 use Rattle.scope.specs.Pairs.{sumFrom}
+use Rattle.laws.proofs.Sums.{sum-agrees, sum-of-nothing}
 use Rattle.extents.specs.Records.{Permutes}
 
 -- ---- sums over a run of numbers
 
--- two functions that agree on the run
-pub sum-same : (f g : ℕ → ℕ) (i k : ℕ) → ((j : ℕ) → i ≤ j → j < i + k → f j ≡ g j) → sumFrom f i k ≡ sumFrom g i k
-unfolding sumFrom
-sum-same f g i zero same = refl
-sum-same f g i (suc k) same =
-    omega (arith, same i (omega arith) (omega arith), sum-same f g (suc i) k (λ j h h′. same j (omega arith) (omega arith)))
-
 module _ (f : ℕ → ℕ) where
-  -- nothing on the run
-  pub sum-none : (i k : ℕ) → ((j : ℕ) → i ≤ j → j < i + k → f j ≡ 0) → sumFrom f i k ≡ 0
-  unfolding sumFrom
-  sum-none i zero none = refl
-  sum-none i (suc k) none =
-      omega (arith, none i (omega arith) (omega arith), sum-none (suc i) k (λ j h h′. none j (omega arith) (omega arith)))
-
   -- one number of the run
   pub sum-one : (i k j : ℕ) → i ≤ j → j < i + k → f j ≤ sumFrom f i k
   unfolding sumFrom
@@ -66,7 +53,7 @@ counted-once i j (suc k) h h′ = from (counted-once i (suc j) k) (ℕ-discrete 
   where
     from : (suc j ≤ i → i < suc j + k → sumFrom (at i) (suc j) k ≡ 1) → Dec (j ≡ i) → at i j + sumFrom (at i) (suc j) k ≡ 1
     from later (yes e) =
-        omega (arith, at-itself i, ap (at i) e, sum-none (at i) (suc j) k (λ l hl hl′. at-other i l (λ q. omega arith)))
+        omega (arith, at-itself i, ap (at i) e, sum-of-nothing (at i) (suc j) k (λ l hl hl′. at-other i l (λ q. omega arith)))
     from later (no ne) = omega (arith, at-other i j ne, later (omega arith) (omega arith))
 
 -- ---- a number that passes a test
@@ -111,7 +98,7 @@ module _ (f : ℕ → ℕ) (n : ℕ) (p : Permutes f n) where
       from (no h′) = absurd (omega (arith, p beyond, none, one, ap (when 1) (le-leb n (f k) (omega arith))))
         where
           none : sumFrom beyond 0 n ≡ 0
-          none = sum-none beyond 0 n (λ j l l′. rw (lt-leb n j (omega arith)))
+          none = sum-of-nothing beyond 0 n (λ j l l′. rw (lt-leb n j (omega arith)))
 
           one : beyond (f k) ≤ sumFrom (λ j. beyond (f j)) 0 n
           one = sum-one (λ j. beyond (f j)) 0 n k (omega arith) (omega arith)
@@ -147,4 +134,4 @@ module _ (f : ℕ → ℕ) (n : ℕ) (p : Permutes f n) where
   pub back-permutes : (g : ℕ → ℕ) → ((k : ℕ) → k < n → g (f k) ≡ k) → Permutes g n
   unfolding Permutes
   back-permutes g back w =
-      sym (p (λ i. w (g i))) ∙ sum-same (λ k. w (g (f k))) w 0 n (λ k h h′. ap w (back k (omega arith)))
+      sym (p (λ i. w (g i))) ∙ sum-agrees (λ k. w (g (f k))) w 0 n (λ k h h′. ap w (back k (omega arith)))

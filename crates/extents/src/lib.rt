@@ -41,7 +41,7 @@ fn larger(a: u16, b: u16) -> u16
 }
 
 // Whether no point can lie in both extents.
-pub fn apart(e: Extent, f: Extent) -> bool
+fn apart(e: Extent, f: Extent) -> bool
     ensures { λ r. ⌜ r ≡ apart e f ⌝ }
 {
     if e.right < f.left {

@@ -52,7 +52,7 @@ fn measure_rings(points: &[u16], directory: &[u32], n: usize, table: &mut [u32])
 }
 
 // The first word behind the groups and the blocks of a ladder.
-pub fn ladder_end(ladder: Ladder) -> usize
+fn ladder_end(ladder: Ladder) -> usize
     requires { ⌜ ladderEnd ladder < 2 ^ 64 ⌝ }
     ensures { λ r. ⌜ r ≡ ladderEnd ladder ⌝ }
 {

@@ -9,13 +9,10 @@ use Rattle.scope.specs.Cells.{when}
 use Rattle.scope.specs.Pairs.{sumFrom}
 use Rattle.scope.specs.GeoJson.{numbersOf}
 use Rattle.laws.proofs.Total.{total, total-append}
-use Rattle.laws.proofs.Sums.{sum-last, sum-nothing}
+use Rattle.laws.proofs.Sums.{sum-last, sum-nothing, sum-agrees, sum-of-nothing}
 
 pub sum-same : (f g : ℕ → ℕ) (n : ℕ) → ((k : ℕ) → k < n → f k ≡ g k) → sumFrom f 0 n ≡ sumFrom g 0 n
-unfolding sumFrom
-sum-same f g zero same = refl
-sum-same f g (suc n) same =
-    omega (arith, sum-last f n, sum-last g n, same n (omega arith), sum-same f g n (λ k h. same k (omega (arith, h))))
+sum-same f g n same = sum-agrees f g 0 n (λ k low high. same k (omega arith))
 
 pub sum-both : (f g : ℕ → ℕ) (n : ℕ) → sumFrom (λ k. f k + g k) 0 n ≡ sumFrom f 0 n + sumFrom g 0 n
 unfolding sumFrom
@@ -33,7 +30,7 @@ sum-exchanged f (suc m) n =
     ∙ sum-same (λ h. sumFrom (λ k. f k h) 0 m + f m h) (λ h. sumFrom (λ k. f k h) 0 (suc m)) n (λ h below. sym (sum-last (λ k. f k h) m))
 
 pub sum-of-none : (f : ℕ → ℕ) (n : ℕ) → ((k : ℕ) → k < n → f k ≡ 0) → sumFrom f 0 n ≡ 0
-sum-of-none f n none = sum-same f (λ k. 0) n none ∙ sum-nothing (λ k. 0) (λ k. refl) 0 n
+sum-of-none f n none = sum-of-nothing f 0 n (λ k low high. none k (omega arith))
 
 -- all but one term are nothing
 pub sum-of-one : (f : ℕ → ℕ) (j : ℕ) → ((k : ℕ) → (k ≡ j → ⊥) → f k ≡ 0) → (n : ℕ) → j < n → sumFrom f 0 n ≡ f j

@@ -51,7 +51,7 @@ fn coordinate_length(doubled: u16) -> u64
 }
 
 // Writes one byte of a text.
-pub fn put_byte(text: &mut [u8], at: usize, byte: u8)
+fn put_byte(text: &mut [u8], at: usize, byte: u8)
     ensures { λ _. ⌜ now (text .exit) ≡ sets (now (text .entry)) at (byte ∷ []) ⌝ }
 {
     if at < text.len() {
@@ -117,7 +117,7 @@ fn put_point(text: &mut [u8], at: usize, x: u16, y: u16) -> usize
 }
 
 // The number of bytes of a ring's text: the ring of `count` points from the point of number `first` on.
-pub fn ring_length(points: &[u16], first: u32, count: u32) -> u64
+fn ring_length(points: &[u16], first: u32, count: u32) -> u64
     requires { ⌜ 2 * (first + count) ≤ length (now points) ⌝ }
     requires { ⌜ count ≤ pointLimit ⌝ }
     ensures { λ r. ⌜ r ≡ length (ringText (Area.points (wordsIn (now (points .entry)) first count))) ⌝ }
@@ -173,7 +173,7 @@ pub fn put_ring(points: &[u16], first: u32, count: u32, text: &mut [u8], at: usi
 }
 
 // What a record whose ring is not refused adds to the length of its set's text.
-pub fn share_of(points: &[u16], record: Record) -> u64
+fn share_of(points: &[u16], record: Record) -> u64
     requires { ⌜ shapeRefused (now points) «record» ≡ false ⌝ }
     ensures { λ r. ⌜ r ≡ recordShare (now (points .entry)) «record» ⌝ }
 {
@@ -187,7 +187,7 @@ pub fn share_of(points: &[u16], record: Record) -> u64
 }
 
 // The number of bytes of a text by the shares of its records: they come into the frame, and the last polygon has no comma.
-pub fn framed(shares: u64) -> u64
+fn framed(shares: u64) -> u64
     requires { ⌜ shares < 2 ^ 63 ⌝ }
     ensures { λ r. ⌜ r ≡ 40 + (shares - 1) ⌝ }
 {

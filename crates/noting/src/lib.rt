@@ -43,7 +43,7 @@ fn area_at(points: &[u16], first: usize, count: usize) -> i64
 }
 
 // The sort key of that ring: a fourth of its size.
-pub fn key_at(points: &[u16], first: usize, count: usize) -> u64
+fn key_at(points: &[u16], first: usize, count: usize) -> u64
     requires { ⌜ RingWithin (now points) first count ⌝ }
     ensures { λ r. ⌜ r ≡ sortKey (ringIn (now (points .entry)) first count) ⌝ }
 {

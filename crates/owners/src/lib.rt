@@ -25,7 +25,7 @@ fn word(table: &[u32], i: usize) -> usize
 }
 
 // The record of the ring of a number.
-pub fn rank_at(table: &[u32], n: usize, number: usize) -> u32
+fn rank_at(table: &[u32], n: usize, number: usize) -> u32
     requires { ⌜ (3 * n ≤ length (now table)) × Permutes (rankOf (now table) n) n × (number < n) ⌝ }
     ensures { λ r. ⌜ RankIs (now (table .entry)) n number r ⌝ }
 {
@@ -50,7 +50,7 @@ fn reach_at(table: &[u32], rings: Ladder, number: usize) -> Extent
 }
 
 // Whether the ring of record `r` takes the ring of record `at`.
-pub fn record_takes(
+fn record_takes(
     points: &[u16],
     directory: &[u32],
     table: &[u32],
@@ -122,7 +122,7 @@ fn even_takers(
 }
 
 // The class of the ring of a number.
-pub fn class_of(
+fn class_of(
     points: &[u16],
     directory: &[u32],
     table: &[u32],
@@ -214,7 +214,7 @@ fn first_taker(
 }
 
 // The owner of the ring of a number: a polygon owns itself, and any other has the first polygon that takes its ring, or none.
-pub fn owner_of(
+fn owner_of(
     points: &[u16],
     directory: &[u32],
     table: &[u32],

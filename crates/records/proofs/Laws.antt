@@ -178,7 +178,7 @@ module _ (values : List Float) (threshold : Float) (dx dy : ℕ) where
     rings-form = record {
       need = refl;
       one = λ directory. one-build values threshold dx dy lines links points directory;
-      exactly = λ directory. rings-exactly values threshold dx dy lines links points directory;
+      exactly = λ directory k. rings-exactly values threshold dx dy lines links points directory k .1;
       fills = λ directory fits. exact-room values threshold dx dy lines links points directory fits;
     }
 
@@ -186,7 +186,7 @@ module _ (values : List Float) (threshold : Float) (dx dy : ℕ) where
     contours-form = record {
       need = refl;
       one = λ directory. one-contours values threshold dx dy lines links points directory;
-      exactly = λ directory. contours-exactly values threshold dx dy lines links points directory;
+      exactly = λ directory k. contours-exactly values threshold dx dy lines links points directory k .1;
       fills = λ directory fits. contours-exact-room values threshold dx dy lines links points directory fits;
     }
 
@@ -195,7 +195,7 @@ module _ (values : List Float) (threshold : Float) (dx dy : ℕ) where
     lines-form = record {
       need = refl;
       one = λ directory. one-lines values threshold dx dy smooth placing lines links points directory;
-      exactly = λ directory. lines-exactly values threshold dx dy smooth placing lines links points directory;
+      exactly = λ directory k. lines-exactly values threshold dx dy smooth placing lines links points directory k .1;
       fills = λ directory fits. lines-exact-room values threshold dx dy smooth placing lines links points directory fits;
     }
 

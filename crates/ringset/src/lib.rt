@@ -59,7 +59,7 @@ fn unclosed(words: &[u16]) -> bool
 }
 
 // Whether number 9 refuses a record for its ring: the count, the range, a coordinate, the last point or the class.
-pub fn shape_faulty(points: &[u16], record: Record) -> bool
+fn shape_faulty(points: &[u16], record: Record) -> bool
     ensures { λ r. ⌜ r ≡ shapeRefused (now (points .entry)) «record» ⌝ }
 {
     let first = record.first as usize;
@@ -86,7 +86,7 @@ pub fn shape_faulty(points: &[u16], record: Record) -> bool
 
 // Whether number 9 refuses record `k` for its owner: a polygon owns itself, a hole has a polygon's number or `NO_OWNER`. The class of the record that the
 // owner's number names is whatever it may be where there is none.
-pub fn owner_faulty(record: Record, rings: u32, k: u32, owner_class: u32) -> bool
+fn owner_faulty(record: Record, rings: u32, k: u32, owner_class: u32) -> bool
     ensures { λ r. ⌜ r ≡ ownerRefused «record» rings k «owner_class» ⌝ }
 {
     if record.class == POLYGON {

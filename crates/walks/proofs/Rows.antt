@@ -2,7 +2,7 @@
 --     Kind R           what is known of the elements' type R: its machine values as a function of the value, and that it is Copy, had for nothing, typed, and seen at a function's exit as it was passed.        of-struct, of-enum, of-uint, of-bool, of-unit      of a declared struct or enum, from what Rattle writes of it, of an unsigned integer, of a bool and of ()
 --     fits             the byte offset of an element that is there is a usize
 --     had              what a value of the type owns is had for nothing.        doubles      what a `&[R]` owns is had twice
---     opens-at         a `&mut [R]` is opened at element i: its cell, what it owns, and what closes the slice.        closes-at, closes-same      it is closed, with y at i, or as it was
+--     opens-at         a `&mut [R]` is opened at element i: its cell, what it owns, and what closes the slice.        closes-at      it is closed, with y at i
 --     looks-at         a `&[R]` is looked into at element i: a share of its cell, what it owns, and what shuts the slice.        shuts-at      it is shut
 -- Around the opened part the slice is one entry, what it owns, beside the lifetime's token.
 -- Assumes `Given`.
@@ -126,14 +126,6 @@ module _ {M : Type 1} {𝓤 : URA M} {H : Heap 𝓤} {A : Atoms 𝓤} {K : Type 
   closes-at t z k ℓ x ys vs i d y l p is = step (λ s. move t (1 ∷ []) $ drop t $ had t k y is $ move t (1 ∷ 0 ∷ []) $ elem-put t R fullShare ys i y (k .vals y) (x .ptr .0) (x .ptr .1) l $
       closes-slice t z R ys (set ys i y) (length-set ys i y) (x .ptr .0) (x .ptr .1) $ fjoin t $
       pureI t (at-slice R (at-last x (set ys i y)) vs) (tt, (tt, tt)) (p .0 ∙ ap (λ (m : ℕ). sliceVal (x .ptr) m ∷ []) (sym (length-set ys i y)), subst (Room R) (sym (length-set ys i y)) (p .1)) $ fjoin t $ s)
-
-  -- the same where it was only read
-  pub closes-same : K → Soaks G → (k : Kind R) (ℓ : Lifetime) {κ : Lft} {q : Share} (x : RefT (List (R .Denot))) (ys : List (R .Denot)) (vs : List Val) (i : ℕ) (d : R .Denot) → i < length ys → shadow (at-slice R (at-last x ys) vs)
-      → Step K W (‵ (MutSlice ℓ κ R .own (at-last x ys) vs) ∷ ‵ (flft κ q) ∷ Γ) G
-      (‵ (cellAt fullShare (R .mir) (k .vals (getD ys i d)) (x .ptr .0) (place (mem R .size) (x .ptr .1) i)) ∷ ‵ (R .own (getD ys i d) (k .vals (getD ys i d))) ∷ ‵ (others (shares R) fullShare ys i (x .ptr .0) (x .ptr .1))
-      ∷ ‵ (fobor κ q (Held R (length ys) (x .ptr .0) (x .ptr .1) (x .name))) ∷ ‵ (fobs (x .name) (codedHoleys R .code (heres R ys))) ∷ ‵ (fauth (x .name) (codedHoleys R .code (heres R ys))) ∷ Γ) G
-  closes-same t z k ℓ x ys vs i d l p = step (λ s. elem-back t R fullShare ys i d (k .vals (getD ys i d)) (x .ptr .0) (x .ptr .1) l $
-      closes-slice t z R ys ys refl (x .ptr .0) (x .ptr .1) $ fjoin t $ pureI t (at-slice R (at-last x ys) vs) (tt, (tt, tt)) p $ fjoin t $ s)
 
   -- ---- a `&[R]`
   pub looks-at : K → Soaks G → (k : Kind R) (ℓ : Lifetime) {κ : Lft} {q : Share} (x : RefT (List (R .Denot))) (vs : List Val) (i : ℕ) (d : R .Denot) → i < length (x .now)
