@@ -41,7 +41,7 @@ pub const VALUES: usize = 4104;
 // Every coordinate of lines that are not listed.
 pub const PLACED: f64 = 7.0;
 
-fn level(case: Case) -> Level {
+pub fn level(case: Case) -> Level {
     Level {
         threshold: case.list.lower,
     }
@@ -213,12 +213,12 @@ fn run_build(
 }
 
 // This many words, or none.
-fn words_if(is_written: bool, words: usize) -> usize {
+pub fn words_if(is_written: bool, words: usize) -> usize {
     if is_written { words } else { 0 }
 }
 
 // Whether a build's points are floats.
-fn has_floats(build: Build) -> bool {
+pub fn has_floats(build: Build) -> bool {
     match build {
         Build::Lines => true,
         _ => false,
@@ -227,7 +227,7 @@ fn has_floats(build: Build) -> bool {
 
 // Whether the work tables that were lent are as a call with this code leaves them where it needs this room: untouched after refusals 1 to 6, and else zero in
 // these words.
-fn work_holds(
+pub fn work_holds(
     need: Room,
     room: Room,
     code: u32,
@@ -247,7 +247,7 @@ fn work_holds(
 }
 
 // Whether points and directory are as a build leaves them that passes, or is refused, where it needs this room.
-fn outputs_hold(
+pub fn outputs_hold(
     need: Room,
     room: Room,
     passes: bool,

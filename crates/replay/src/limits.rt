@@ -69,8 +69,8 @@ fn second_pair() -> List {
     }
 }
 
-// The class word and the owner word of a ring that no other surrounds.
-fn fate_of(build: Build) -> [u32; 4] {
+// The record of the only ring of the longest grid.
+fn longest_record(build: Build) -> [u32; 4] {
     match build {
         Build::Contour | Build::Band => [0, 8195, 0, 0],
         _ => [0, 8195, 2, 4294967295],
@@ -81,7 +81,7 @@ fn fate_of(build: Build) -> [u32; 4] {
 pub fn longest_passes(build: Build, dx: u32, dy: u32) -> bool {
     let values = [1.0f64; VALUES];
     let none = [0u32; 0];
-    let records = fate_of(build);
+    let records = longest_record(build);
     let case = sized_case(build, dx, dy, LONGEST, second_pair(), DRAWING);
     case_holds(case, &records, &none, &values)
 }

@@ -1,7 +1,6 @@
 // A line of the text of lines: sides, smoothing, threshold and placement, the samples, the set of the lines, and their points. A float is four numbers, the parts
 // of its pattern.
 use crate::calls::VALUES;
-use crate::calls::case_holds;
 use crate::cases::Build;
 use crate::cases::Drawing;
 use crate::grids::after_records;
@@ -9,6 +8,7 @@ use crate::grids::case_of;
 use crate::grids::counts_of;
 use crate::grids::pair_of;
 use crate::grids::sample_count;
+use crate::recorded::both_hold;
 use crate::tables::after;
 use crate::tables::listed_float;
 use crate::tables::put_float;
@@ -52,5 +52,5 @@ pub fn lines_hold(line: &[u32]) -> bool {
     let case = case_of(Build::Lines, line, counts_of(set), list, drawing);
     let mut values = [0.0f64; VALUES];
     fill_floats(samples, case.samples, &mut values);
-    (listed.len() == 8 * (word(set, 3) as usize)) & case_holds(case, after(set, 4), listed, &values)
+    (listed.len() == 8 * (word(set, 3) as usize)) & both_hold(case, after(set, 4), listed, &values)
 }

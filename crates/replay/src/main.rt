@@ -1,16 +1,18 @@
 // Replays what the crate answered. Standard input, the file stdin, is what `compare/run --answers` writes: the texts of rings, of contours and bands, and of lines,
 // each with how many grids it has and then a line for each grid. Every number is held to what the library answers in exact room, with each table one word short,
-// and in generous room. Then the longest sides that pass, the nearest that do not, and lists without a pair are run.
+// and in generous room, and so are the builds by records. Then the longest sides that pass, the nearest that do not, and lists without a pair are run.
 // A program has no exit status of its own: what differs stands in what it writes, which is held to the file stdout.
 mod calls;
 mod cases;
 mod grids;
 mod limits;
 mod lines;
+mod recorded;
 mod regions;
 mod rings;
 mod tables;
 mod text;
+mod tried;
 
 use cases::Build;
 use limits::grid_refused;

@@ -1,7 +1,6 @@
 // A line of the text of contours and bands: sides, samples, two thresholds, the set of the contour at the first, the set of the band between both, and the points
 // of the band, which begin with the contour's.
 use crate::calls::VALUES;
-use crate::calls::case_holds;
 use crate::cases::Build;
 use crate::grids::PLAIN;
 use crate::grids::after_records;
@@ -9,6 +8,7 @@ use crate::grids::case_of;
 use crate::grids::counts_of;
 use crate::grids::pair_of;
 use crate::grids::sample_count;
+use crate::recorded::both_hold;
 use crate::tables::after;
 use crate::tables::put_float;
 use crate::tables::word;
@@ -37,6 +37,6 @@ pub fn regions_hold(line: &[u32]) -> bool {
     let mut values = [0.0f64; VALUES];
     fill(after(line, 2), contour_case.samples, &mut values);
     (listed.len() == band_case.room.worded)
-        & case_holds(contour_case, after(contour, 4), listed, &values)
-        & case_holds(band_case, after(band, 4), listed, &values)
+        & both_hold(contour_case, after(contour, 4), listed, &values)
+        & both_hold(band_case, after(band, 4), listed, &values)
 }

@@ -1,12 +1,12 @@
 // A line of the rings' text: sides, a number a row, S, H and R, and for each ring its point count and its points.
 use crate::calls::VALUES;
-use crate::calls::case_holds;
 use crate::cases::Build;
 use crate::cases::Case;
 use crate::cases::Counts;
 use crate::grids::PLAIN;
 use crate::grids::case_of;
 use crate::grids::pair_of;
+use crate::recorded::both_hold;
 use crate::tables::after;
 use crate::tables::put;
 use crate::tables::put_float;
@@ -110,7 +110,7 @@ fn taken_holds(
     listed: &[u32; NUMBERS],
     values: &[f64; VALUES],
 ) -> bool {
-    case_holds(case, records, listed, values)
+    both_hold(case, records, listed, values)
 }
 
 // Whether the grid of this line is replayed without a difference.

@@ -1,0 +1,101 @@
+-- What the walks of this crate hold in locals and hand back, and its parameters that are passed on. Assumes `Given`.
+use mathlib.Core.Path.{_≡_, refl, _∙_}
+use Prim.Native.Nat.{ℕ}
+use mathlib.Core.List.{List, [], _∷_, map}
+use lib.Dec.{lit<}
+use lib.ListN.{replicate, length-map}
+use mir.Val.{Val, vstruct, ofList}
+use denote.Exit.{Kept}
+use denote.RattleType.{RattleType}
+use denote.Signature.{Slot, AllWithin, plain, shrSliceOf, meetAt, nameOf}
+use denote.Slice.{slice-vals, shr-slice-tells}
+use denote.Triple.Walked.{stay-dropped, goes-dropped}
+use denote.Laws.{Is}
+use denote.Array.{Array, arrayVal, array-vals, each}
+use denote.Shadow.{shadow}
+use denote.Steps.{only}
+use denote.Enum.Laws as EL
+use denote.Struct.Laws as LL
+use Rattle.walks.proofs.Rows.{Kind, of-struct, of-enum}
+use Rattle.walks.proofs.Params.{Param, silent}
+use Rattle.cells.proofs.Level as LT
+use Rattle.cells.proofs.Level.Laws as LT′
+use Rattle.smoothing.proofs.Placement as PT
+use Rattle.smoothing.proofs.Placement.Laws as PT′
+use Rattle.isoringbuilder.specs.declared.Built.{Built}
+use Rattle.isoringbuilder.proofs.Built as BT
+use Rattle.isoringbuilder.proofs.Built.Laws as BT′
+use Rattle.ringrecord.specs.declared.RingRecord.{RingRecord}
+use Rattle.ringrecord.specs.declared.Fate.{Fate}
+use Rattle.ringrecord.proofs.Records.{R, kind}
+use Rattle.ringrecord.proofs.RingRecord as RT
+use Rattle.ringrecord.proofs.RingRecord.Laws as RT′
+use Rattle.ringrecord.proofs.Fate as FT
+use Rattle.ringrecord.proofs.Fate.Laws as FT′
+use Rattle.replay.proofs.Fronts.{repeated}
+use Rattle.replay.proofs.tried.Tried as TT
+use Rattle.replay.proofs.tried.Tried.Laws as TT′
+
+abbrev pub level-kind : Kind LT.the-row
+level-kind = of-struct LT.the-type LT′.the-laws LT′.the-copy LT′.the-plain
+
+abbrev pub placement-kind : Kind PT.the-row
+placement-kind = of-struct PT.the-type PT′.the-laws PT′.the-copy PT′.the-plain
+
+abbrev pub built-kind : Kind BT.the-row
+built-kind = of-enum BT.the-type BT′.the-laws tt BT′.the-copy BT′.the-plain
+
+abbrev pub fate-kind : Kind FT.the-row
+fate-kind = of-enum FT.the-type FT′.the-laws tt FT′.the-copy FT′.the-plain
+
+abbrev pub tried-kind : Kind TT.the-row
+tried-kind = of-struct TT.the-type TT′.the-laws TT′.the-copy TT′.the-plain
+
+-- the record that every place holds before a build
+abbrev pub soil : RingRecord
+soil = record { first = 4294967295; count = 0; fate = Fate.Hole 4294967295 }
+
+pub fate-is : Is FT.the-row (soil .fate) (fate-kind .vals (soil .fate))
+fate-is = EL.owes FT.the-type FT′.the-laws (soil .fate) ((refl, lit< tt), tt)
+
+pub soil-is : Is R soil (kind .vals soil)
+soil-is = LL.owes RT.the-type RT′.the-laws soil ((refl, lit< tt), ((refl, lit< tt), (fate-is, tt)))
+
+-- the array of such records
+abbrev pub soiled : List RingRecord
+soiled = replicate 128 soil
+
+pub soiled-is : Is (Array R 128) soiled (arrayVal (replicate 128 (only (kind .vals soil))) ∷ [])
+soiled-is = repeated R 128 soil _ soil-is
+
+-- what is handed back: its machine value, and that it is one. In a struct the elements of an array stand as tuples
+abbrev pub tried-val : Built → List RingRecord → Val
+tried-val answer records = vstruct (ofList (only (built-kind .vals answer) ∷ only (array-vals (kind .vals) records) ∷ []))
+
+as-tuples : (xs : List RingRecord) (us : List Val) → shadow (each RingRecord (R .own) xs us) → shadow (each (RT.the-field .row .Denot) (RT.the-field .row .own) (map (RT.the-field .into) xs) us)
+as-tuples [] [] s = tt
+as-tuples [] (u ∷ us) s = absurd s
+as-tuples (x ∷ xs) [] s = absurd s
+as-tuples (x ∷ xs) (u ∷ us) s = (s .0, as-tuples xs us (s .1))
+
+pub tried-is : (answer : Built) (records : List RingRecord) → Is BT.the-row answer (built-kind .vals answer) → Is (Array R 128) records (array-vals (kind .vals) records) → Is TT.the-row (record { answer = answer; records = records }) (tried-val answer records ∷ [])
+tried-is answer records is are = ((built-kind .vals answer, (array-vals (kind .vals) records, tt)), (refl, (is, ((are .0, ((are .1 .0 .0, length-map records (RT.the-field .into) ∙ are .1 .0 .1), as-tuples records (are .0) (are .1 .1))), tt))))
+
+module _ {n : ℕ} where
+  -- plain data that is passed on for good
+  abbrev pub spent : {R : RattleType} (k : Kind R) {e : Kept} → Param {n = n} (plain (λ _. R)) e
+  spent {R} k {e} = record {
+    stay = stay-dropped (plain (λ _. R)) e;
+    goes = λ 𝓤 H A W. goes-dropped 𝓤 H A W n (plain (λ _. R)) e (λ κs. silent (R .exit e) (k .still e));
+    spelled = λ _. k .vals;
+    tells = λ _. k .tells;
+  }
+
+  -- a `&[T]` that is passed on for good
+  abbrev pub spent-slice : (j : ℕ) (ok : AllWithin n (j ∷ [])) (s : Slot n) {e : Kept} → Param (shrSliceOf (j ∷ []) ok s) e
+  spent-slice j ok s {e} = record {
+    stay = stay-dropped (shrSliceOf (j ∷ []) ok s) e;
+    goes = λ 𝓤 H A W. goes-dropped 𝓤 H A W n (shrSliceOf (j ∷ []) ok s) e (λ κs x f. refl);
+    spelled = λ _. slice-vals;
+    tells = λ κs. shr-slice-tells (nameOf (j ∷ [])) (meetAt n (j ∷ []) ok κs) (s .row κs);
+  }
