@@ -1,8 +1,8 @@
--- `replay::rings::fill_rows` is safe and ends: the samples left get fewer. Assumes nothing.
+-- `replay::ring_grids::fill_rows` is safe and ends: the samples left get fewer. Assumes nothing.
 use Prim.Native.Nat.{_-_}
 use borrow.Author.Needs.{needs}
-use Rattle.replay.proofs.rings.fill_rows.Statement.{statement}
-use Rattle.replay.proofs.rings.fill_rows.Tie as tie
+use Rattle.replay.proofs.ring_grids.fill_rows.Statement.{statement}
+use Rattle.replay.proofs.ring_grids.fill_rows.Tie as tie
 
 pub fill-rows-spec : {M : Type 1} → statement M
 fill-rows-spec =

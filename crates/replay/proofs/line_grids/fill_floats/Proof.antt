@@ -1,8 +1,8 @@
--- `replay::lines::fill_floats` is safe and ends: the samples left get fewer. Assumes nothing.
+-- `replay::line_grids::fill_floats` is safe and ends: the samples left get fewer. Assumes nothing.
 use Prim.Native.Nat.{_-_}
 use borrow.Author.Needs.{needs}
-use Rattle.replay.proofs.lines.fill_floats.Statement.{statement}
-use Rattle.replay.proofs.lines.fill_floats.Tie as tie
+use Rattle.replay.proofs.line_grids.fill_floats.Statement.{statement}
+use Rattle.replay.proofs.line_grids.fill_floats.Tie as tie
 
 pub fill-floats-spec : {M : Type 1} → statement M
 fill-floats-spec =

@@ -1,8 +1,8 @@
--- `replay::rings::take_rings` is safe and ends: the numbers left get fewer. Assumes nothing.
+-- `replay::ring_grids::take_rings` is safe and ends: the numbers left get fewer. Assumes nothing.
 use Prim.Native.Nat.{_-_}
 use borrow.Author.Needs.{needs}
-use Rattle.replay.proofs.rings.take_rings.Statement.{statement}
-use Rattle.replay.proofs.rings.take_rings.Tie as tie
+use Rattle.replay.proofs.ring_grids.take_rings.Statement.{statement}
+use Rattle.replay.proofs.ring_grids.take_rings.Tie as tie
 
 pub take-rings-spec : {M : Type 1} → statement M
 take-rings-spec =

@@ -1,8 +1,8 @@
--- `replay::regions::fill` is safe and ends: the samples left get fewer. Assumes nothing.
+-- `replay::region_grids::fill` is safe and ends: the samples left get fewer. Assumes nothing.
 use Prim.Native.Nat.{_-_}
 use borrow.Author.Needs.{needs}
-use Rattle.replay.proofs.regions.fill.Statement.{statement}
-use Rattle.replay.proofs.regions.fill.Tie as tie
+use Rattle.replay.proofs.region_grids.fill.Statement.{statement}
+use Rattle.replay.proofs.region_grids.fill.Tie as tie
 
 pub fill-spec : {M : Type 1} → statement M
 fill-spec =
