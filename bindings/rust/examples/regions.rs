@@ -1,6 +1,7 @@
-//! Prints the contour and the bands of a 7 by 3 terrain as polygons and holes.
+//! Prints the contour and the bands of a 7 by 3 terrain as polygons and holes. One set of tables serves all
+//! three.
 
-use nigrulent::{contours, isobands, Point, Refusal, Regions};
+use nigrulent::{Point, Refusal, Regions, Tables, Terrain};
 
 /// A plate with a hole and a peak, and a small hill beside it.
 #[rustfmt::skip]
@@ -12,10 +13,16 @@ const VALUES: [f64; 21] = [
 const LEVELS: [f64; 3] = [1.0, 2.0, 2.0];
 
 fn main() -> Result<(), Refusal> {
-    print("contour at 1", &contours(&VALUES, 1.0, 7, 3)?);
-    print("band from 1 to 2", &isobands(&VALUES, &LEVELS, 0, 7, 3)?);
-    print("band from 2 to 2", &isobands(&VALUES, &LEVELS, 1, 7, 3)?);
-    if let Err(refusal) = isobands(&VALUES, &LEVELS, 2, 7, 3) {
+    let terrain = Terrain::new(&VALUES, 7, 3)?;
+    let mut tables = Tables::new();
+    print(
+        "contour at 1",
+        &tables.contours(&terrain, 1.0)?.to_regions(),
+    );
+    for (k, title) in ["band from 1 to 2", "band from 2 to 2"].iter().enumerate() {
+        print(title, &tables.isobands(&terrain, &LEVELS, k)?.to_regions());
+    }
+    if let Err(refusal) = tables.isobands(&terrain, &LEVELS, 2) {
         println!("band from the last threshold: refusal {}", refusal.number());
     }
     Ok(())
@@ -24,16 +31,16 @@ fn main() -> Result<(), Refusal> {
 fn print(title: &str, regions: &Regions) {
     println!("{title}");
     for polygon in &regions.polygons {
-        println!("polygon {}", shown(&polygon.exterior));
+        println!("polygon {}", shown(&polygon.exterior.points));
         for interior in &polygon.interiors {
-            println!("  hole {}", shown(interior));
+            println!("  hole {}", shown(&interior.points));
         }
     }
     for ring in &regions.dropped {
-        println!("dropped {}", shown(ring));
+        println!("dropped {}", shown(&ring.points));
     }
 }
 
 fn shown(ring: &[Point]) -> String {
-    ring.iter().map(|(x, y)| format!("({x},{y})")).collect()
+    ring.iter().map(|[x, y]| format!("({x},{y})")).collect()
 }

@@ -1,117 +1,154 @@
-//! Polygons with their holes as GeoJSON text.
+//! Polygons with their holes as GeoJSON text, out of the tables or out of vectors.
 
-use crate::regions::NOBODY;
-use crate::tables::{Level, Tables, Terrain};
+use crate::drawn::{Rings, HOLE, NO_OWNER, POLYGON};
 use crate::{ffi, Point, Refusal, Regions};
 
-/// What `contours` draws, as GeoJSON text: a MultiPolygon of its polygons, each followed by its holes, in
-/// the units of columns and rows. Sample (column, row) stands at (column + 0.5, row + 0.5). Without polygons
-/// the coordinates are `[]`.
-pub fn contours_geojson(
-    values: &[f64],
-    threshold: f64,
-    dx: usize,
-    dy: usize,
-) -> Result<String, Refusal> {
-    let terrain = Terrain {
-        values,
-        level: Level::Contours(threshold),
-        dx,
-        dy,
-    };
-    terrain.drawn()?.geojson()
-}
-
-/// What `isobands` draws, as GeoJSON text of the same form.
-pub fn isobands_geojson(
-    values: &[f64],
-    thresholds: &[f64],
-    k: usize,
-    dx: usize,
-    dy: usize,
-) -> Result<String, Refusal> {
-    let terrain = Terrain {
-        values,
-        level: Level::Band(thresholds, k),
-        dx,
-        dy,
-    };
-    terrain.drawn()?.geojson()
-}
-
-/// Polygons, drawn or made by hand, as GeoJSON text of the same form. The dropped holes are checked as the
-/// others are, and left out.
+/// Polygons, drawn or made by hand, as GeoJSON text of the form of
+/// [`contours_geojson`](crate::Terrain::contours_geojson). They are written in the order of the lists, whatever
+/// their numbers. The dropped holes are checked as the others are, and left out.
+///
+/// # Errors
+///
+/// Those of [`check`].
+///
+/// ```
+/// use nigrulent::{geojson, Terrain};
+/// # fn main() -> Result<(), nigrulent::Refusal> {
+/// let terrain = Terrain::new(&[1.0, 0.0, 1.0], 3, 1)?;
+/// assert_eq!(geojson(&terrain.contours(1.0)?)?, terrain.contours_geojson(1.0)?);
+/// # Ok(())
+/// # }
+/// ```
 pub fn geojson(regions: &Regions) -> Result<String, Refusal> {
-    Tables::of(regions)?.geojson()
+    Packed::of(regions)?.rings().geojson()
 }
 
-/// Whether `geojson` takes these polygons: every ring, that of a dropped hole too, has at least four points,
-/// the last of them equal to the first, and no coordinate above 8,192.
+/// Whether [`geojson`] takes these polygons.
+///
+/// # Errors
+///
+/// [`Refusal::RingSet`] where a ring, that of a dropped hole too, has fewer than four points or more than
+/// 67,108,864, a last point that is not the first, or a coordinate above 8,192.
+///
+/// ```
+/// use nigrulent::{check, Polygon, Refusal, Regions, Ring};
+/// let made = |points: &[[u16; 2]]| {
+///     let exterior = Ring { points: points.to_vec(), ..Ring::default() };
+///     Regions { polygons: vec![Polygon { exterior, interiors: vec![] }], dropped: vec![] }
+/// };
+/// assert_eq!(check(&made(&[[0, 0], [4, 0], [0, 4], [0, 0]])), Ok(()));
+/// assert_eq!(check(&made(&[[0, 0], [4, 0], [0, 4]])), Err(Refusal::RingSet));
+/// ```
 pub fn check(regions: &Regions) -> Result<(), Refusal> {
-    Tables::of(regions)?.check()
+    Packed::of(regions)?.rings().check()
 }
 
 /// Calls a function that reads a ring set, with what else it takes.
 macro_rules! call {
-    ($tables:expr, $function:ident $(, $rest:expr)*) => {{
-        let Tables { points, directory } = $tables;
-        let rings = index(directory.len() / 4)?;
+    ($set:expr, $function:ident $(, $rest:expr)* $(,)?) => {{
+        let Rings { points, directory } = *$set;
+        let rings = word(directory.len())?;
         // Safety: the library reads the points and the directory and writes the text and the length lent,
         // within the lengths passed beside them.
         Refusal::of(unsafe {
             ffi::$function(
-                points.as_ptr(), points.len(), directory.as_ptr(), directory.len(), rings, $($rest),*
+                points.as_ptr().cast(),
+                2 * points.len(),
+                directory.as_ptr().cast(),
+                4 * directory.len(),
+                rings,
+                $($rest),*
             )
         })
     }};
 }
 
-impl Tables {
-    /// A record for each polygon, followed by those of its holes; then the dropped holes.
-    fn of(regions: &Regions) -> Result<Self, Refusal> {
-        let mut tables = Tables::default();
-        for polygon in &regions.polygons {
-            let number = index(tables.directory.len() / 4)?;
-            tables.push(&polygon.exterior, 0, number)?;
-            for interior in &polygon.interiors {
-                tables.push(interior, 1, number)?;
-            }
-        }
-        for ring in &regions.dropped {
-            tables.push(ring, 1, NOBODY)?;
-        }
-        Ok(tables)
+impl Rings<'_> {
+    /// The polygons with their holes, those of a contour or a band, as GeoJSON text of the form of
+    /// [`contours_geojson`](crate::Terrain::contours_geojson).
+    ///
+    /// # Errors
+    ///
+    /// [`Refusal::RingSet`] where there are bare rings, which are no polygons.
+    pub fn geojson(&self) -> Result<String, Refusal> {
+        let mut text = Vec::new();
+        self.write_geojson(&mut text)?;
+        Ok(String::from_utf8(text).expect("the library writes ASCII"))
     }
 
-    fn push(&mut self, ring: &[Point], class: u32, owner: u32) -> Result<(), Refusal> {
-        let first = index(self.points.len() / 2)?;
-        let count = index(ring.len())?;
-        self.directory.extend([first, count, class, owner]);
-        self.points.extend(ring.iter().flat_map(|&(x, y)| [x, y]));
-        Ok(())
+    /// The same into a vector that is kept from call to call; what it held is gone.
+    ///
+    /// # Errors
+    ///
+    /// Those of [`geojson`](Rings::geojson); the vector is then empty.
+    ///
+    /// ```
+    /// use nigrulent::{Refusal, Tables, Terrain};
+    /// # fn main() -> Result<(), nigrulent::Refusal> {
+    /// let terrain = Terrain::new(&[1.0, 0.0, 1.0], 3, 1)?;
+    /// let (mut tables, mut text) = (Tables::new(), Vec::new());
+    /// for threshold in [0.0, 1.0, 2.0] {
+    ///     tables.contours(&terrain, threshold)?.write_geojson(&mut text)?;
+    ///     assert_eq!(text, terrain.contours_geojson(threshold)?.as_bytes());
+    /// }
+    /// assert_eq!(tables.rings(&terrain, 1.0)?.geojson(), Err(Refusal::RingSet));
+    /// # Ok(())
+    /// # }
+    /// ```
+    pub fn write_geojson(&self, text: &mut Vec<u8>) -> Result<(), Refusal> {
+        let mut length = 0;
+        text.clear();
+        call!(self, contour_geojson_length, &mut length)?;
+        text.resize(length as usize, 0);
+        let room = text.len();
+        call!(self, contour_geojson, text.as_mut_ptr(), room, &mut length)
     }
 
     fn check(&self) -> Result<(), Refusal> {
         call!(self, contour_check)
     }
+}
 
-    /// The text, in room of the reported length.
-    fn geojson(&self) -> Result<String, Refusal> {
-        let mut length = 0;
-        call!(self, contour_geojson_length, &mut length)?;
-        let mut text = vec![0; length as usize];
-        call!(
-            self,
-            contour_geojson,
-            text.as_mut_ptr(),
-            text.len(),
-            &mut length
-        )?;
-        Ok(String::from_utf8(text).expect("the library writes ASCII"))
+/// The points and records of polygons that are in vectors.
+#[derive(Default)]
+struct Packed {
+    points: Vec<Point>,
+    directory: Vec<[u32; 4]>,
+}
+
+impl Packed {
+    /// A record for each polygon, followed by those of its holes; then the dropped holes.
+    fn of(regions: &Regions) -> Result<Self, Refusal> {
+        let mut packed = Packed::default();
+        for polygon in &regions.polygons {
+            let number = word(packed.directory.len())?;
+            packed.push(&polygon.exterior.points, POLYGON, number)?;
+            for interior in &polygon.interiors {
+                packed.push(&interior.points, HOLE, number)?;
+            }
+        }
+        for ring in &regions.dropped {
+            packed.push(&ring.points, HOLE, NO_OWNER)?;
+        }
+        Ok(packed)
+    }
+
+    fn push(&mut self, ring: &[Point], class: u32, owner: u32) -> Result<(), Refusal> {
+        let (first, count) = (word(self.points.len())?, word(ring.len())?);
+        self.directory.push([first, count, class, owner]);
+        self.points.extend_from_slice(ring);
+        Ok(())
+    }
+
+    fn rings(&self) -> Rings<'_> {
+        Rings {
+            points: &self.points,
+            directory: &self.directory,
+        }
     }
 }
 
 /// A number as a word of the directory. A set that is too large for one is no set that the library takes.
-fn index(number: usize) -> Result<u32, Refusal> {
+fn word(number: usize) -> Result<u32, Refusal> {
     u32::try_from(number).map_err(|_| Refusal::RingSet)
 }

@@ -1,75 +1,111 @@
 //! Rings of a terrain, their areas and containment, the polygons with holes that they make, these as GeoJSON,
-//! and smoothed and placed lines, drawn by the proved library libcontour_c.a. The tables that it is lent are
-//! sized by its reports and given up again; rings come out as plain vectors.
+//! and smoothed and placed lines, drawn by the proved library libcontour_c.a.
+//!
+//! A [`Terrain`] is its values and sides. Its own functions hand out plain vectors. [`Tables`] keeps what the
+//! library is lent from call to call, and hands out rings as slices that it lends in turn, with the number,
+//! class and owner of each.
 //!
 //! Coordinates are doubled whole numbers: sample (column, row) stands at (2·column + 1, 2·row + 1). Those of
 //! lines are floats.
+//!
+//! ```
+//! use nigrulent::{area, Terrain};
+//! # fn main() -> Result<(), nigrulent::Refusal> {
+//! let values = [1.0, 1.0, 1.0, 1.0, 0.0, 1.0, 1.0, 1.0, 1.0];
+//! let terrain = Terrain::new(&values, 3, 3)?;
+//! let contour = terrain.contours(1.0)?;
+//! let hole = &contour.polygons[0].interiors[0];
+//! assert_eq!(hole.points, [[3, 4], [2, 3], [3, 2], [4, 3], [3, 4]]);
+//! assert_eq!(area(&hole.points)?, -4);
+//! # Ok(())
+//! # }
+//! ```
 
+#![warn(missing_docs)]
+
+mod drawn;
 mod ffi;
 mod geojson;
-mod lines;
 mod refusal;
 mod regions;
 mod tables;
+mod terrain;
 
-pub use geojson::{check, contours_geojson, geojson, isobands_geojson};
-pub use lines::{lines, Placement};
+pub use drawn::{Drawn, Fate, Lines, Record, Rings};
+pub use geojson::{check, geojson};
 pub use refusal::Refusal;
-pub use regions::{contours, isobands, Polygon, Regions};
+pub use regions::{Polygon, Regions, Ring};
+pub use tables::Tables;
+pub use terrain::{Placement, Terrain};
 
-use tables::{Level, Terrain};
+/// The examples of README.md.
+#[cfg(doctest)]
+#[doc = include_str!("../README.md")]
+struct Readme;
 
-/// A doubled point, x first.
-pub type Point = (u16, u16);
+/// A point of a ring in doubled coordinates, x first.
+pub type Point = [u16; 2];
+
+/// A vertex of a line, x first.
+pub type Vertex = [f64; 2];
 
 /// Where a tested ring lies.
 #[derive(Clone, Copy, Debug, PartialEq, Eq)]
 pub enum Place {
+    /// Inside the outer ring.
     Inside,
+    /// On its boundary, with every point.
     Boundary,
+    /// Outside of it.
     Outside,
 }
 
-/// The rings of a terrain of dx columns and dy rows, in the order in which they close. Each is a closed list
-/// of points, the first repeated last. A sample is above when its value >= threshold.
-pub fn rings(
-    values: &[f64],
-    threshold: f64,
-    dx: usize,
-    dy: usize,
-) -> Result<Vec<Vec<Point>>, Refusal> {
-    let terrain = Terrain {
-        values,
-        level: Level::Rings(threshold),
-        dx,
-        dy,
-    };
-    let records = terrain.drawn()?.records().into_iter();
-    Ok(records.map(|record| record.ring).collect())
-}
-
 /// The area of a ring: eight times the enclosed area in squares of one step from sample to sample, above 0
-/// for a polygon and below for a hole.
+/// for a polygon of a contour and below for a hole.
+///
+/// # Errors
+///
+/// [`Refusal::Ring`] for a ring that is empty, has more than 67,108,864 points or a coordinate above 8,192.
+///
+/// ```
+/// use nigrulent::{area, Refusal};
+/// assert_eq!(area(&[[2, 1], [1, 0], [0, 1], [1, 2], [2, 1]]), Ok(4));
+/// assert_eq!(area(&[]), Err(Refusal::Ring));
+/// ```
 pub fn area(ring: &[Point]) -> Result<i64, Refusal> {
-    let words = words(ring);
     let mut area = 0;
     // Safety: the library reads the words lent and writes one number.
-    Refusal::of(unsafe { ffi::contour_area(words.as_ptr(), words.len(), &mut area) })?;
+    Refusal::of(unsafe { ffi::contour_area(ring.as_ptr().cast(), 2 * ring.len(), &mut area) })?;
     Ok(area)
 }
 
 /// A tested ring against an outer one: its first point that is not on the boundary decides. A point in the
-/// row of a closed ring's first point counts as on its boundary.
+/// row of a closed ring's first point counts as on its boundary. The tested ring may be empty.
+///
+/// # Errors
+///
+/// [`Refusal::Ring`] where the outer ring is empty, or either has more than 67,108,864 points or a coordinate
+/// above 8,192.
+///
+/// ```
+/// use nigrulent::{contains, Place, Terrain};
+/// # fn main() -> Result<(), nigrulent::Refusal> {
+/// let values = [1.0, 1.0, 1.0, 1.0, 0.0, 1.0, 1.0, 1.0, 1.0];
+/// let rings = Terrain::new(&values, 3, 3)?.rings(1.0)?;
+/// assert_eq!(contains(&rings[1], &rings[0])?, Place::Inside);
+/// assert_eq!(contains(&rings[0], &rings[1])?, Place::Outside);
+/// # Ok(())
+/// # }
+/// ```
 pub fn contains(outer: &[Point], tested: &[Point]) -> Result<Place, Refusal> {
-    let (outer, tested) = (words(outer), words(tested));
     let mut answer = 0;
     // Safety: the library reads the words lent and writes one number.
     Refusal::of(unsafe {
         ffi::contour_contains(
-            outer.as_ptr(),
-            outer.len(),
-            tested.as_ptr(),
-            tested.len(),
+            outer.as_ptr().cast(),
+            2 * outer.len(),
+            tested.as_ptr().cast(),
+            2 * tested.len(),
             &mut answer,
         )
     })?;
@@ -78,8 +114,4 @@ pub fn contains(outer: &[Point], tested: &[Point]) -> Result<Place, Refusal> {
         0 => Place::Boundary,
         _ => Place::Outside,
     })
-}
-
-fn words(ring: &[Point]) -> Vec<u16> {
-    ring.iter().flat_map(|&(x, y)| [x, y]).collect()
 }

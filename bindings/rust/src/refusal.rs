@@ -1,7 +1,8 @@
 //! The numbers that the library refuses with.
 
-/// Why a call was refused.
-#[derive(Clone, Copy, Debug, PartialEq, Eq)]
+/// Why a call was refused: the lowest number that applies.
+#[derive(Clone, Copy, Debug, PartialEq, Eq, Hash)]
+#[non_exhaustive]
 pub enum Refusal {
     /// 1: a side is 0 or above 4,096.
     Side,
@@ -52,6 +53,7 @@ impl Refusal {
         }
     }
 
+    /// 0 is success.
     pub(crate) fn of(number: u32) -> Result<(), Refusal> {
         match number {
             0 => Ok(()),

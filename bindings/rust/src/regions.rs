@@ -1,80 +1,87 @@
-//! Contours and bands as polygons with their holes.
+//! Contours and bands as polygons with their holes, in vectors.
 
-use crate::tables::{Level, Record, Terrain};
-use crate::{Point, Refusal};
+use crate::drawn::{Fate, Rings};
+use crate::Point;
 
-/// The owner of a hole that belongs to no polygon.
-pub const NOBODY: u32 = u32::MAX;
-
-/// A ring with the holes that belong to it. Each is a closed list of points, the first repeated last.
-#[derive(Clone, Debug, PartialEq, Eq)]
-pub struct Polygon {
-    pub exterior: Vec<Point>,
-    pub interiors: Vec<Vec<Point>>,
+/// A ring with its number, by which owners are named: of a contour its place in the order in which rings close,
+/// of a band its place by size.
+#[derive(Clone, Debug, Default, PartialEq, Eq)]
+pub struct Ring {
+    /// Its number.
+    pub number: u32,
+    /// A closed list of points, the first repeated last.
+    pub points: Vec<Point>,
 }
 
-/// The polygons of a contour or a band, and the holes that belong to none of them.
+/// A ring with the holes that belong to it.
+#[derive(Clone, Debug, Default, PartialEq, Eq)]
+pub struct Polygon {
+    /// The ring about it.
+    pub exterior: Ring,
+    /// Its holes, by number.
+    pub interiors: Vec<Ring>,
+}
+
+impl Polygon {
+    /// The number of its exterior, which its holes have for owner.
+    pub fn number(&self) -> u32 {
+        self.exterior.number
+    }
+
+    /// The exterior, then the holes.
+    pub fn rings(&self) -> impl Iterator<Item = &Ring> {
+        std::iter::once(&self.exterior).chain(&self.interiors)
+    }
+}
+
+/// The polygons of a contour or a band by number, and the holes that belong to none of them.
 #[derive(Clone, Debug, Default, PartialEq, Eq)]
 pub struct Regions {
+    /// The polygons.
     pub polygons: Vec<Polygon>,
-    pub dropped: Vec<Vec<Point>>,
+    /// The holes that belong to none.
+    pub dropped: Vec<Ring>,
 }
 
-/// The contour of a terrain of dx columns and dy rows: polygons about the samples that are above, which is
-/// those of value >= threshold. Polygons come in the order in which their rings close, and so do the holes
-/// of each.
-pub fn contours(values: &[f64], threshold: f64, dx: usize, dy: usize) -> Result<Regions, Refusal> {
-    let terrain = Terrain {
-        values,
-        level: Level::Contours(threshold),
-        dx,
-        dy,
-    };
-    Ok(Regions::of(terrain.drawn()?.records()))
-}
-
-/// The band of thresholds k and k + 1 of a list, counted from 0: polygons about the samples that are above
-/// the one and not above the other. Polygons come in the order of their sizes, the smallest first, and so do
-/// the interior rings of each.
-pub fn isobands(
-    values: &[f64],
-    thresholds: &[f64],
-    k: usize,
-    dx: usize,
-    dy: usize,
-) -> Result<Regions, Refusal> {
-    let terrain = Terrain {
-        values,
-        level: Level::Band(thresholds, k),
-        dx,
-        dy,
-    };
-    Ok(Regions::of(terrain.drawn()?.records()))
-}
-
-impl Regions {
-    /// A polygon's record owns itself; a hole's may stand before that of its polygon.
-    fn of(records: Vec<Record>) -> Self {
+impl Rings<'_> {
+    /// Each polygon with its holes, and the dropped holes, in vectors. Bare rings have no class and are left
+    /// out.
+    ///
+    /// ```
+    /// use nigrulent::{Tables, Terrain};
+    /// # fn main() -> Result<(), nigrulent::Refusal> {
+    /// let terrain = Terrain::new(&[1.0, 0.0, 1.0], 3, 1)?;
+    /// let regions = Tables::new().contours(&terrain, 1.0)?.to_regions();
+    /// assert_eq!(regions, terrain.contours(1.0)?);
+    /// # Ok(())
+    /// # }
+    /// ```
+    pub fn to_regions(&self) -> Regions {
         let mut regions = Regions::default();
-        let mut places = vec![0; records.len()];
-        let (polygons, holes): (Vec<_>, Vec<_>) = records
-            .into_iter()
-            .enumerate()
-            .partition(|(_, record)| record.class == 0);
-        for (number, record) in polygons {
-            places[number] = regions.polygons.len();
+        let mut places = vec![0; self.len()];
+        for record in self.records().filter(|r| r.fate == Fate::Polygon) {
+            places[record.number as usize] = regions.polygons.len();
             regions.polygons.push(Polygon {
-                exterior: record.ring,
+                exterior: ring(record.number, record.points),
                 interiors: Vec::new(),
             });
         }
-        for (_, record) in holes {
-            let of_its_own = match record.owner {
-                NOBODY => &mut regions.dropped,
-                owner => &mut regions.polygons[places[owner as usize]].interiors,
+        // A hole's record may stand before that of its polygon.
+        for record in self.records() {
+            let holes = match record.fate {
+                Fate::Hole(owner) => &mut regions.polygons[places[owner as usize]].interiors,
+                Fate::Dropped => &mut regions.dropped,
+                Fate::Polygon | Fate::Line => continue,
             };
-            of_its_own.push(record.ring);
+            holes.push(ring(record.number, record.points));
         }
         regions
+    }
+}
+
+fn ring(number: u32, points: &[Point]) -> Ring {
+    Ring {
+        number,
+        points: points.to_vec(),
     }
 }

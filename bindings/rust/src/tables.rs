@@ -1,46 +1,57 @@
-//! The tables that the library is lent: sized by its reports, filled, and read.
+//! The tables that the library is lent: sized by its first report, and kept from call to call.
 
-use crate::{ffi, Point, Refusal};
+use crate::drawn::{Lines, Rings};
+use crate::{ffi, Placement, Point, Refusal, Terrain, Vertex};
+
+/// The tables that the library is lent. They grow to what a call needs and stay for the next one, so that who
+/// draws many terrains, or one at many thresholds, takes memory once. What a call has drawn is borrowed from
+/// them until the next.
+///
+/// They are sized by the first report and by what it bounds: each ring has four segments or more. So each
+/// terrain is stitched once.
+///
+/// ```
+/// use nigrulent::{Fate, Tables, Terrain};
+/// # fn main() -> Result<(), nigrulent::Refusal> {
+/// let values = [1.0, 1.0, 1.0, 1.0, 0.0, 1.0, 1.0, 1.0, 1.0];
+/// let terrain = Terrain::new(&values, 3, 3)?;
+/// let mut tables = Tables::new();
+/// for threshold in [0.0, 0.5, 1.0] {
+///     let rings = tables.contours(&terrain, threshold)?;
+///     let longest = rings.iter().map(<[_]>::len).max();
+///     assert_eq!(longest, Some(13));
+/// }
+/// let fates: Vec<_> = tables.contours(&terrain, 1.0)?.records().map(|r| (r.number, r.fate)).collect();
+/// assert_eq!(fates, [(0, Fate::Hole(1)), (1, Fate::Polygon)]);
+/// # Ok(())
+/// # }
+/// ```
+#[derive(Debug, Default)]
+pub struct Tables {
+    open: Vec<u32>,
+    links: Vec<u32>,
+    points: Vec<Point>,
+    vertices: Vec<Vertex>,
+    directory: Vec<[u32; 4]>,
+}
 
 /// What is drawn, and at which thresholds.
 #[derive(Clone, Copy)]
-pub enum Level<'a> {
+enum Level<'a> {
     Rings(f64),
     Contours(f64),
     Band(&'a [f64], usize),
 }
 
-#[derive(Clone, Copy)]
-pub struct Terrain<'a> {
-    pub values: &'a [f64],
-    pub level: Level<'a>,
-    pub dx: usize,
-    pub dy: usize,
-}
-
-/// A record of the directory, with its ring's points.
-pub struct Record {
-    pub ring: Vec<Point>,
-    pub class: u32,
-    pub owner: u32,
-}
-
-/// A ring set: the points' words, and a record of four words a ring.
-#[derive(Default)]
-pub struct Tables {
-    pub points: Vec<u16>,
-    pub directory: Vec<u32>,
-}
-
 /// Calls one of three functions, for rings, contours or a band, with a terrain and what else it takes.
 macro_rules! call {
-    ($terrain:expr, [$rings:ident, $contours:ident, $band:ident], $($rest:expr),*) => {{
-        let Terrain { values, level, dx, dy } = *$terrain;
+    ($terrain:expr, $level:expr, [$rings:ident, $contours:ident, $band:ident], $($rest:expr),* $(,)?) => {{
+        let (values, dx, dy) = ($terrain.values(), $terrain.dx(), $terrain.dy());
         let (at, count) = (values.as_ptr(), values.len());
         // Safety: the library reads the values and the thresholds and writes the tables and outputs lent,
         // within the lengths passed beside them.
         Refusal::of(unsafe {
-            match level {
+            match $level {
                 Level::Rings(t) => ffi::$rings(at, count, t, dx, dy, $($rest),*),
                 Level::Contours(t) => ffi::$contours(at, count, t, dx, dy, $($rest),*),
                 Level::Band(list, k) => {
@@ -51,92 +62,147 @@ macro_rules! call {
     }};
 }
 
-/// The work tables, and how many points and rings the outputs have.
-pub struct Lent {
-    pub lines: Vec<u32>,
-    pub links: Vec<u32>,
-    pub points: usize,
-    pub rings: usize,
-}
+impl Tables {
+    /// Tables of no room.
+    pub fn new() -> Self {
+        Tables::default()
+    }
 
-impl Terrain<'_> {
-    /// The work tables by the first report, the sizes of the outputs by the second.
-    pub fn lend(&self) -> Result<Lent, Refusal> {
-        let (mut segments, mut rings, mut peak, mut points) = (0, 0, 0, 0);
+    /// The rings, in the order in which they close, as [`Terrain::rings`] hands them out.
+    ///
+    /// # Errors
+    ///
+    /// None that the library leaves for a terrain; should it refuse all the same, its number.
+    pub fn rings(&mut self, terrain: &Terrain, threshold: f64) -> Result<Rings<'_>, Refusal> {
+        self.draw(terrain, Level::Rings(threshold))
+    }
+
+    /// The rings with class and owner, as [`Terrain::contours`] sorts them into polygons.
+    ///
+    /// # Errors
+    ///
+    /// As of [`rings`](Tables::rings).
+    pub fn contours(&mut self, terrain: &Terrain, threshold: f64) -> Result<Rings<'_>, Refusal> {
+        self.draw(terrain, Level::Contours(threshold))
+    }
+
+    /// The rings of a band, by size, with class and owner, as [`Terrain::isobands`] sorts them into polygons.
+    ///
+    /// # Errors
+    ///
+    /// [`Refusal::Thresholds`] where the list has fewer than two thresholds, else [`Refusal::Pair`] where it has
+    /// no pair k and k + 1.
+    pub fn isobands(
+        &mut self,
+        terrain: &Terrain,
+        thresholds: &[f64],
+        k: usize,
+    ) -> Result<Rings<'_>, Refusal> {
+        self.draw(terrain, Level::Band(thresholds, k))
+    }
+
+    /// The lines, as [`Terrain::lines`] hands them out.
+    ///
+    /// # Errors
+    ///
+    /// As of [`rings`](Tables::rings).
+    pub fn lines(
+        &mut self,
+        terrain: &Terrain,
+        threshold: f64,
+        smooth: bool,
+        placement: Placement,
+    ) -> Result<Lines<'_>, Refusal> {
+        let most_points = self.lend(terrain, Level::Rings(threshold))?;
+        make_room(&mut self.vertices, most_points);
+        let mut rings = 0;
+        // Safety: the library reads the values and writes the tables and outputs lent, within the lengths
+        // passed beside them.
+        Refusal::of(unsafe {
+            ffi::contour_lines(
+                terrain.values().as_ptr(),
+                terrain.values().len(),
+                threshold,
+                terrain.dx(),
+                terrain.dy(),
+                smooth.into(),
+                placement.x_origin,
+                placement.y_origin,
+                placement.x_step,
+                placement.y_step,
+                self.open.as_mut_ptr(),
+                self.open.len(),
+                self.links.as_mut_ptr(),
+                self.links.len(),
+                self.vertices.as_mut_ptr().cast(),
+                2 * self.vertices.len(),
+                self.directory.as_mut_ptr().cast(),
+                4 * self.directory.len(),
+                &mut rings,
+            )
+        })?;
+        Ok(Lines {
+            points: &self.vertices,
+            directory: &self.directory[..rings as usize],
+        })
+    }
+
+    fn draw(&mut self, terrain: &Terrain, level: Level) -> Result<Rings<'_>, Refusal> {
+        let most_points = self.lend(terrain, level)?;
+        make_room(&mut self.points, most_points);
+        let mut rings = 0;
         call!(
-            self,
+            terrain,
+            level,
+            [contour_rings, contour_contours, contour_isobands],
+            self.open.as_mut_ptr(),
+            self.open.len(),
+            self.links.as_mut_ptr(),
+            self.links.len(),
+            self.points.as_mut_ptr().cast(),
+            2 * self.points.len(),
+            self.directory.as_mut_ptr().cast(),
+            4 * self.directory.len(),
+            &mut rings,
+        )?;
+        Ok(Rings {
+            points: &self.points,
+            directory: &self.directory[..rings as usize],
+        })
+    }
+
+    /// Room in the work tables and the directory, by the first report. Gives the number of points that there
+    /// are at most. A band has two sets of rings, of so many segments each.
+    fn lend(&mut self, terrain: &Terrain, level: Level) -> Result<usize, Refusal> {
+        let (mut segments, mut peak) = (0, 0);
+        call!(
+            terrain,
+            level,
             [
                 contour_first_report,
                 contour_first_report,
                 contour_band_first_report
             ],
             &mut segments,
-            &mut peak
-        )?;
-        let mut lines = vec![0; 4 * peak as usize + self.dx + 2];
-        let mut links = vec![0; 2 * segments as usize];
-        call!(
-            self,
-            [
-                contour_second_report,
-                contour_second_report,
-                contour_band_second_report
-            ],
-            lines.as_mut_ptr(),
-            lines.len(),
-            links.as_mut_ptr(),
-            links.len(),
-            &mut segments,
-            &mut rings,
             &mut peak,
-            &mut points
         )?;
-        Ok(Lent {
-            lines,
-            links,
-            points: points as usize,
-            rings: rings as usize,
-        })
-    }
-
-    /// Everything drawn.
-    pub fn drawn(&self) -> Result<Tables, Refusal> {
-        let mut lent = self.lend()?;
-        let mut points = vec![0; 2 * lent.points];
-        let mut directory = vec![0; 4 * lent.rings];
-        let mut rings = 0;
-        call!(
-            self,
-            [contour_rings, contour_contours, contour_isobands],
-            lent.lines.as_mut_ptr(),
-            lent.lines.len(),
-            lent.links.as_mut_ptr(),
-            lent.links.len(),
-            points.as_mut_ptr(),
-            points.len(),
-            directory.as_mut_ptr(),
-            directory.len(),
-            &mut rings
-        )?;
-        Ok(Tables { points, directory })
+        let (segments, peak) = (segments as usize, peak as usize);
+        let all_segments = match level {
+            Level::Band(..) => 2 * segments,
+            _ => segments,
+        };
+        let most_rings = all_segments / 4;
+        make_room(&mut self.open, 4 * peak + terrain.dx() + 2);
+        make_room(&mut self.links, 2 * segments);
+        make_room(&mut self.directory, most_rings);
+        Ok(all_segments + most_rings)
     }
 }
 
-impl Tables {
-    /// The records by number, each with its points.
-    pub fn records(&self) -> Vec<Record> {
-        let records = self.directory.chunks_exact(4).map(|record| Record {
-            ring: points_of(record, &self.points),
-            class: record[2],
-            owner: record[3],
-        });
-        records.collect()
+/// A table that is short is taken anew: nothing in it is kept.
+fn make_room<T: Clone + Default>(table: &mut Vec<T>, count: usize) {
+    if table.len() < count {
+        *table = Vec::new();
+        *table = vec![T::default(); count];
     }
-}
-
-/// The points of a record, whose first two words are its first point and its number of points.
-pub fn points_of<W: Copy>(record: &[u32], words: &[W]) -> Vec<(W, W)> {
-    let [first, count] = [record[0] as usize, record[1] as usize];
-    let words = &words[2 * first..2 * (first + count)];
-    words.chunks_exact(2).map(|p| (p[0], p[1])).collect()
 }

@@ -1,0 +1,154 @@
+//! Numbers, classes and owners by the rules, from areas and containment of the plain rings; and tables that are
+//! reused against tables of one call.
+
+use nigrulent::{area, contains, Fate, Place, Placement, Point, Refusal, Regions, Tables, Terrain};
+
+/// How many random terrains are drawn.
+const TERRAINS: u64 = 600;
+
+/// Random numbers from a fixed seed.
+struct Random(u64);
+
+impl Random {
+    fn below(&mut self, bound: u64) -> u64 {
+        self.0 = self.0.wrapping_mul(6364136223846793005).wrapping_add(1);
+        (self.0 >> 33) % bound
+    }
+}
+
+/// Calls with terrains of sides 1 to 12, of whole values up to 4, and a threshold among these.
+fn for_terrains(mut call: impl FnMut(&Terrain, f64) -> Result<(), Refusal>) {
+    let mut random = Random(1);
+    for _ in 0..TERRAINS {
+        let [dx, dy] = [(); 2].map(|()| 1 + random.below(12) as usize);
+        let values: Vec<_> = (0..dx * dy).map(|_| random.below(5) as f64).collect();
+        let threshold = (1 + random.below(4)) as f64;
+        let terrain = Terrain::new(&values, dx, dy).expect("sides and count are right");
+        call(&terrain, threshold).expect("nothing is refused");
+    }
+}
+
+fn takes(outer: &[Point], tested: &[Point]) -> Result<bool, Refusal> {
+    Ok(contains(outer, tested)? != Place::Outside)
+}
+
+/// The number of the first of these rings that is a polygon and takes the tested one.
+fn owner(rings: &[&[Point]], polygons: &[bool], tested: &[Point]) -> Result<Fate, Refusal> {
+    for (number, ring) in rings.iter().enumerate() {
+        if polygons[number] && takes(ring, tested)? {
+            return Ok(Fate::Hole(number as u32));
+        }
+    }
+    Ok(Fate::Dropped)
+}
+
+/// The fates of all rings, where it is known which are polygons.
+fn fates(rings: &[&[Point]], polygons: &[bool]) -> Result<Vec<Fate>, Refusal> {
+    let fate = |(ring, &polygon): (&&[Point], &bool)| match polygon {
+        true => Ok(Fate::Polygon),
+        false => owner(rings, polygons, ring),
+    };
+    rings.iter().zip(polygons).map(fate).collect()
+}
+
+/// Every ring of these regions, by number, with its fate.
+fn listed(regions: &Regions) -> Vec<(u32, Fate, &[Point])> {
+    let mut all = Vec::new();
+    for polygon in &regions.polygons {
+        all.push((
+            polygon.number(),
+            Fate::Polygon,
+            &polygon.exterior.points[..],
+        ));
+        for hole in &polygon.interiors {
+            all.push((hole.number, Fate::Hole(polygon.number()), &hole.points[..]));
+        }
+    }
+    let dropped = regions.dropped.iter();
+    all.extend(dropped.map(|ring| (ring.number, Fate::Dropped, &ring.points[..])));
+    all.sort_by_key(|&(number, _, _)| number);
+    all
+}
+
+#[test]
+fn contours_are_numbered_as_rings_and_owned_by_the_rule() {
+    for_terrains(|terrain, threshold| {
+        let rings = terrain.rings(threshold)?;
+        let rings: Vec<_> = rings.iter().map(Vec::as_slice).collect();
+        let areas: Result<Vec<_>, _> = rings.iter().map(|ring| area(ring)).collect();
+        let polygons: Vec<_> = areas?.iter().map(|&area| area > 0).collect();
+        let expected: Vec<_> = (0..)
+            .zip(fates(&rings, &polygons)?)
+            .zip(&rings)
+            .map(|((number, fate), &ring)| (number, fate, ring))
+            .collect();
+        assert_eq!(listed(&terrain.contours(threshold)?), expected);
+        Ok(())
+    });
+}
+
+#[test]
+fn bands_are_numbered_by_size_and_owned_by_the_rule() {
+    for_terrains(|terrain, threshold| {
+        let sets = [terrain.rings(threshold)?, terrain.rings(threshold + 1.0)?];
+        let mut rings: Vec<_> = sets.iter().flatten().map(Vec::as_slice).collect();
+        rings.sort_by_key(|ring| area(ring).map_or(0, |area| area.unsigned_abs() / 4));
+        let mut polygons = Vec::new();
+        for (number, ring) in rings.iter().enumerate() {
+            let mut takers = 0;
+            for (_, other) in rings.iter().enumerate().filter(|(k, _)| *k != number) {
+                takers += u32::from(takes(other, ring)?);
+            }
+            polygons.push(takers % 2 == 0);
+        }
+        let expected: Vec<_> = (0..)
+            .zip(fates(&rings, &polygons)?)
+            .zip(&rings)
+            .map(|((number, fate), &ring)| (number, fate, ring))
+            .collect();
+        let band = terrain.isobands(&[threshold, threshold + 1.0], 0)?;
+        assert_eq!(listed(&band), expected);
+        Ok(())
+    });
+}
+
+#[test]
+fn reused_tables_hold_what_tables_of_one_call_hold() {
+    let (mut tables, mut text) = (Tables::new(), Vec::new());
+    let placement = Placement {
+        x_origin: 3.0,
+        y_step: -2.0,
+        ..Placement::default()
+    };
+    for_terrains(|terrain, threshold| {
+        let pair = [threshold, threshold + 1.0];
+        let rings = tables.rings(terrain, threshold)?;
+        assert!(rings.iter().eq(terrain.rings(threshold)?.iter()));
+        assert!(rings
+            .records()
+            .all(|ring| ring.fate == Fate::Line && ring.owner().is_none()));
+
+        let contour = tables.contours(terrain, threshold)?;
+        assert_eq!(contour.to_regions(), terrain.contours(threshold)?);
+        contour.write_geojson(&mut text)?;
+        assert_eq!(text, terrain.contours_geojson(threshold)?.as_bytes());
+        for (number, record) in (0..).zip(contour.records()) {
+            assert_eq!(
+                (record.number, contour.record(number)),
+                (number, Some(record))
+            );
+        }
+        assert_eq!(contour.record(contour.len() as u32), None);
+
+        let band = tables.isobands(terrain, &pair, 0)?;
+        assert_eq!(band.to_regions(), terrain.isobands(&pair, 0)?);
+        assert_eq!(band.geojson()?, terrain.isobands_geojson(&pair, 0)?);
+
+        let lines = tables.lines(terrain, threshold, true, placement)?;
+        assert!(lines
+            .iter()
+            .eq(terrain.lines(threshold, true, placement)?.iter()));
+        assert_eq!(lines.is_empty(), terrain.rings(threshold)?.is_empty());
+        Ok(())
+    });
+}
