@@ -3,11 +3,11 @@
 use crate::options::{Form, Levels, Options, Pen};
 use crate::picture;
 use crate::terrain::Terrain;
-use nigrulent::{Placement, Refusal, Regions};
+use nigrulent::{Placement, Refusal, Regions, Vertex};
 use std::fmt::Write;
 
 /// A line's points, x first.
-pub type Line = Vec<(f64, f64)>;
+pub type Line = Vec<Vertex>;
 
 /// What the options ask for, in the form that they ask for; or why the terrain cannot be drawn.
 pub fn text(terrain: &Terrain, options: &Options) -> Result<String, String> {
@@ -30,16 +30,16 @@ pub fn text(terrain: &Terrain, options: &Options) -> Result<String, String> {
 }
 
 fn regions(terrain: &Terrain, options: &Options) -> Result<String, Refusal> {
-    let Terrain { values, dx, dy, .. } = terrain;
+    let samples = nigrulent::Terrain::new(&terrain.values, terrain.dx, terrain.dy)?;
     let drawn = || match options.levels {
-        Levels::One(threshold) => nigrulent::contours(values, threshold, *dx, *dy),
-        Levels::Band(pair) => nigrulent::isobands(values, &pair, 0, *dx, *dy),
+        Levels::One(threshold) => samples.contours(threshold),
+        Levels::Band(pair) => samples.isobands(&pair, 0),
     };
     match options.form {
         Form::GeoJson => {
             let mut text = match options.levels {
-                Levels::One(threshold) => nigrulent::contours_geojson(values, threshold, *dx, *dy)?,
-                Levels::Band(pair) => nigrulent::isobands_geojson(values, &pair, 0, *dx, *dy)?,
+                Levels::One(threshold) => samples.contours_geojson(threshold)?,
+                Levels::Band(pair) => samples.isobands_geojson(&pair, 0)?,
             };
             text.push('\n');
             Ok(text)
@@ -55,7 +55,7 @@ fn count_regions(regions: &Regions) -> String {
     let (mut holes, mut vertices) = (0, 0);
     for polygon in &regions.polygons {
         holes += polygon.interiors.len();
-        vertices += polygon.exterior.len() + polygon.interiors.iter().map(Vec::len).sum::<usize>();
+        vertices += polygon.rings().map(|ring| ring.points.len()).sum::<usize>();
     }
     let [polygons, dropped] = [regions.polygons.len(), regions.dropped.len()];
     format!("polygons {polygons}\nholes {holes}\ndropped {dropped}\nvertices {vertices}\n")
@@ -86,17 +86,15 @@ fn lines(
     smooth: bool,
     placement: Placement,
 ) -> Result<Vec<Line>, String> {
-    let Terrain { values, dx, dy, .. } = terrain;
     let levels = match levels {
         Levels::One(threshold) => vec![threshold],
         Levels::Band(pair) => pair.to_vec(),
     };
     let drawn = |smooth: bool| -> Result<Vec<Line>, Refusal> {
+        let samples = nigrulent::Terrain::new(&terrain.values, terrain.dx, terrain.dy)?;
         let mut lines = Vec::new();
         for &level in &levels {
-            lines.extend(nigrulent::lines(
-                values, level, *dx, *dy, smooth, placement,
-            )?);
+            lines.extend(samples.lines(level, smooth, placement)?);
         }
         Ok(lines)
     };
@@ -104,16 +102,11 @@ fn lines(
     if smooth && !all_finite(&lines) {
         let midway = drawn(false).map_err(|refusal| refusal.to_string())?;
         for (point, stays) in lines.iter_mut().flatten().zip(midway.iter().flatten()) {
-            point.0 = if point.0.is_finite() {
-                point.0
-            } else {
-                stays.0
-            };
-            point.1 = if point.1.is_finite() {
-                point.1
-            } else {
-                stays.1
-            };
+            for (coordinate, stays) in point.iter_mut().zip(stays) {
+                if !coordinate.is_finite() {
+                    *coordinate = *stays;
+                }
+            }
         }
     }
     if !all_finite(&lines) {
@@ -124,7 +117,7 @@ fn lines(
 
 fn all_finite(lines: &[Line]) -> bool {
     let mut points = lines.iter().flatten();
-    points.all(|(x, y)| x.is_finite() && y.is_finite())
+    points.all(|[x, y]| x.is_finite() && y.is_finite())
 }
 
 /// One MultiLineString of RFC 7946, and a newline.
@@ -132,7 +125,7 @@ fn lines_geojson(lines: &[Line]) -> String {
     let mut text = String::from("{\"type\":\"MultiLineString\",\"coordinates\":[");
     for (number, line) in lines.iter().enumerate() {
         text.push_str(if number == 0 { "[" } else { ",[" });
-        for (k, (x, y)) in line.iter().enumerate() {
+        for (k, [x, y]) in line.iter().enumerate() {
             let comma = if k == 0 { "" } else { "," };
             write!(text, "{comma}[{x},{y}]").expect("a string takes all text");
         }

@@ -3,7 +3,7 @@
 use crate::drawing::Line;
 use crate::options::Levels;
 use crate::terrain::Terrain;
-use nigrulent::{Point, Polygon, Regions};
+use nigrulent::{Point, Polygon, Regions, Ring};
 use std::fmt::Write;
 
 /// The longer side, in pixels.
@@ -20,7 +20,7 @@ const INK: &str = "#6a4a2b";
 pub fn of_regions(terrain: &Terrain, levels: Levels, regions: &Regions) -> String {
     let filled = format!("fill=\"{FILL}\" fill-rule=\"evenodd\"");
     let mut text = begin(terrain, levels, &filled);
-    let mut polygons = regions.polygons.iter().map(rings).peekable();
+    let mut polygons = regions.polygons.iter().map(Polygon::rings).peekable();
     match levels {
         Levels::One(_) => polygons.for_each(|rings| push_path(&mut text, rings)),
         Levels::Band(_) if polygons.peek().is_none() => (),
@@ -29,13 +29,9 @@ pub fn of_regions(terrain: &Terrain, levels: Levels, regions: &Regions) -> Strin
     end(text)
 }
 
-fn rings(polygon: &Polygon) -> impl Iterator<Item = &Vec<Point>> {
-    std::iter::once(&polygon.exterior).chain(&polygon.interiors)
-}
-
-fn push_path<'a>(text: &mut String, rings: impl Iterator<Item = &'a Vec<Point>>) {
+fn push_path<'a>(text: &mut String, rings: impl Iterator<Item = &'a Ring>) {
     text.push_str("<path d=\"");
-    rings.for_each(|ring| push_ring(text, ring));
+    rings.for_each(|ring| push_ring(text, &ring.points));
     text.push_str("\"/>\n");
 }
 
@@ -43,7 +39,7 @@ pub fn of_lines(terrain: &Terrain, levels: Levels, lines: &[Line]) -> String {
     let mut text = begin(terrain, levels, "fill=\"none\"");
     for line in lines {
         text.push_str("<polyline points=\"");
-        for (k, &(x, y)) in line.iter().enumerate() {
+        for (k, &[x, y]) in line.iter().enumerate() {
             let space = if k == 0 { "" } else { " " };
             let (x, y) = (rounded(x), rounded(y));
             write!(text, "{space}{x},{y}").expect("a string takes all text");
@@ -79,7 +75,7 @@ fn end(mut text: String) -> String {
 
 /// A ring of doubled points, as halves. Its last point is the first, to which Z goes back.
 fn push_ring(text: &mut String, ring: &[Point]) {
-    for (k, &(x, y)) in ring[..ring.len() - 1].iter().enumerate() {
+    for (k, &[x, y]) in ring[..ring.len() - 1].iter().enumerate() {
         let step = if k == 0 { 'M' } else { 'L' };
         let (x, y) = (f64::from(x) / 2.0, f64::from(y) / 2.0);
         write!(text, "{step}{x},{y}").expect("a string takes all text");

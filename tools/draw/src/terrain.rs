@@ -85,7 +85,7 @@ fn read_grid<'a>(
 ) -> Result<Terrain, Unread> {
     let (dx, dy) = (header.ncols, header.nrows);
     // Sides are refused before any row is read.
-    if let Err(refusal @ Refusal::Side) = nigrulent::rings(&[], 0.0, dx, dy) {
+    if let Err(refusal @ Refusal::Side) = nigrulent::Terrain::new(&[], dx, dy) {
         return Err(Unread::Refused(refusal));
     }
     let mut values = Vec::with_capacity(dx * dy);
