@@ -32,7 +32,7 @@ install_packages() {
     echo "installing ${missing[*]}"
     export DEBIAN_FRONTEND=noninteractive
     apt-get update -qq
-    apt-get install -y -qq --no-install-recommends "${missing[@]}" >"$build/install.log" 2>&1 || {
+    apt-get install -y -qq -o DPkg::Lock::Timeout=600 --no-install-recommends "${missing[@]}" >"$build/install.log" 2>&1 || {
         cat "$build/install.log" >&2
         return 1
     }
@@ -84,20 +84,26 @@ find_features() {
     fi
 }
 
-# Debian's own rustc and cargo, whatever else is on the path, with no settings of the user's. The folder
-# compare/ says where the dependencies stand, so cargo is called there, with the package to build.
-build_package() {
-    local package=$1
-    shift
+# A command of Debian's own cargo for a package, whatever else is on the path, with no settings of the user's. The
+# folder compare/ says where the dependencies stand, so cargo is called there.
+cargo_for() {
+    local command=$1 package=$2
+    shift 2
     (
         unset RUSTFLAGS CARGO_ENCODED_RUSTFLAGS CARGO_BUILD_RUSTFLAGS RUSTC_WRAPPER CARGO_BUILD_TARGET
-        export RUSTC=/usr/bin/rustc CARGO_HOME=$build/cargo CARGO_TARGET_DIR=$build
+        export RUSTC=/usr/bin/rustc RUSTDOC=/usr/bin/rustdoc CARGO_HOME=$build/cargo CARGO_TARGET_DIR=$build
         export CONTOUR_C_FOLDER=$build/lib CARGO_TARGET_X86_64_UNKNOWN_LINUX_GNU_LINKER=$linker
-        [ $native = yes ] || export CARGO_ENCODED_RUSTFLAGS=--sysroot=$build/std/usr
+        if [ $native = no ]; then
+            export CARGO_ENCODED_RUSTFLAGS=--sysroot=$build/std/usr
+            export CARGO_TARGET_X86_64_UNKNOWN_LINUX_GNU_RUNNER=${emulator[*]}
+        fi
         cd "$root/compare"
-        /usr/bin/cargo build --quiet --release --offline --target "$target" --manifest-path "$package/Cargo.toml" "$@"
+        /usr/bin/cargo "$command" --quiet --release --offline --target "$target" \
+            --manifest-path "$package/Cargo.toml" "$@"
     )
 }
+
+build_package() { cargo_for build "$@"; }
 
 # Everything up to the placed library.
 prepare() {
