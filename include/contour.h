@@ -1,20 +1,44 @@
 /*
  * Rings of a terrain of samples, their areas and containment, the polygons with holes that they make, these as
- * GeoJSON, and smoothed and placed lines: the C interface of libcontour_c.a.
+ * GeoJSON, and smoothed and placed lines: the C interface of libcontour_c.
  *
  * The library allocates nothing and keeps nothing between calls. The caller lends every table. A call
- * returns 0 and has done its work, or returns the number of a refusal. Every input has an answer: each
- * pointer need only reach the words that its count states, and what a call may write must not overlap
- * anything else that it is lent.
+ * returns CONTOUR_OK, which is 0, and has done its work, or returns the number of a refusal. Every input has an
+ * answer: each pointer need only reach the words that its count states, and what a call may write must not
+ * overlap anything else that it is lent. Where the count is 0 the pointer may be NULL; a pointer to an output
+ * may not.
  *
- * The terrain: dx columns and dy rows, each from 1 to 4,096, and dx * dy values, row after row. A sample is
- * above when its value >= threshold; a NaN on either side is not above. Outside the grid nothing is above.
+ * The order of calls. A first report sizes the work tables, a second report the outputs, and then a figure is
+ * drawn; here the contour at a threshold t:
+ *
+ *     uint32_t s, h, r, p;
+ *     contour_first_report(values, dx * dy, t, dx, dy, &s, &h);
+ *     size_t lines_words = CONTOUR_OPEN_WORDS(h, dx), links_words = CONTOUR_LINK_WORDS(s);
+ *     uint32_t *lines = malloc(4 * lines_words), *links = malloc(4 * links_words);
+ *     contour_second_report(values, dx * dy, t, dx, dy, lines, lines_words, links, links_words, &s, &r, &h, &p);
+ *     size_t points_words = CONTOUR_POINT_WORDS(p), directory_words = CONTOUR_DIRECTORY_WORDS(r);
+ *     uint16_t *points = malloc(2 * points_words);
+ *     uint32_t *directory = malloc(4 * directory_words);
+ *     contour_contours(values, dx * dy, t, dx, dy, lines, lines_words, links, links_words,
+ *                      points, points_words, directory, directory_words, &r);
+ *     for (uint32_t k = 0; k < r; k++) {
+ *         const uint32_t *record = directory + CONTOUR_RECORD_WORDS * (size_t)k;
+ *         const uint16_t *ring = points + 2 * (size_t)record[CONTOUR_RECORD_FIRST];
+ *         ... record[CONTOUR_RECORD_COUNT] points x, y, record[CONTOUR_RECORD_CLASS] and [CONTOUR_RECORD_OWNER] ...
+ *     }
+ *
+ * Each call may be refused, which this leaves out. contour_geojson writes such a figure as text, and
+ * contour_easy.h beside this file does all of it in one call, with tables that it owns.
+ *
+ * The terrain: dx columns and dy rows, each from 1 to CONTOUR_SIDE_LIMIT, 4,096, and dx * dy values, row after
+ * row. A sample is above when its value >= threshold; a NaN on either side is not above. Outside the grid
+ * nothing is above.
  *
  * Coordinates are doubled whole numbers: sample (column, row) stands at (2 * column + 1, 2 * row + 1), and
- * every coordinate is at most 8,192. A ring is a closed list of points, its first point repeated last, as
- * words x, y, x, y, and so on. A ring about samples that are above has a positive area, a hole a negative
- * one. The coordinates of lines are doubles: before a line is placed, sample (column, row) stands at
- * (column + 0.5, row + 0.5).
+ * every coordinate is at most CONTOUR_COORDINATE_LIMIT, 8,192. A ring is a closed list of points, its first
+ * point repeated last, as words x, y, x, y, and so on. A ring about samples that are above has a positive area,
+ * a hole a negative one. The coordinates of lines are doubles: before a line is placed, sample (column, row)
+ * stands at (column + 0.5, row + 0.5).
  *
  * Sizes: S is the number of segments drawn, R the number of rings, H the largest number of lines that are
  * open at a time.
@@ -36,8 +60,8 @@
  *
  * A directory record has four words: the number of the ring's first point, its number of points, its class
  * and its owner. The class is 0 for a polygon, 1 for a hole and 2 for a bare ring or a line. A polygon owns
- * itself, and a hole has the record number of its polygon for owner. 4,294,967,295 is no owner: a bare ring and
- * a line have none, and a hole that belongs to no polygon is dropped.
+ * itself, and a hole has the record number of its polygon for owner. CONTOUR_NO_OWNER, 4,294,967,295, is no
+ * owner: a bare ring and a line have none, and a hole that belongs to no polygon is dropped.
  *
  * Refusals. The lowest that applies is returned, alone:
  *
@@ -56,6 +80,13 @@
  *
  * A refused call changes nothing, except that 7 and 8 leave zeros in the needed words of both work tables,
  * as success does. What the work tables hold at entry does not matter. Words past the need never change.
+ *
+ * Threads. The library has no memory of its own, so any number of calls may run at once, as long as nothing
+ * that one of them writes is lent to another. They may share the values, the thresholds and finished figures,
+ * which are only read.
+ *
+ * Stack. A call takes less than CONTOUR_STACK_BYTES of it, whatever the terrain; that is measured on the
+ * compiled code and not proved. The largest frame has some 4,400 bytes, and no function calls itself.
  */
 #ifndef CONTOUR_H
 #define CONTOUR_H
@@ -63,9 +94,95 @@
 #include <stddef.h>
 #include <stdint.h>
 
+/* The version of this header and of the library that was installed with it. */
+#define CONTOUR_VERSION_MAJOR 0
+#define CONTOUR_VERSION_MINOR 2
+#define CONTOUR_VERSION_PATCH 0
+#define CONTOUR_VERSION "0.2.0"
+
+/* What a call returns. */
+#define CONTOUR_OK 0u
+#define CONTOUR_BAD_SIDE 1u
+#define CONTOUR_BAD_VALUE_COUNT 2u
+#define CONTOUR_FEW_THRESHOLDS 3u
+#define CONTOUR_NO_PAIR 4u
+#define CONTOUR_OPEN_SHORT 5u
+#define CONTOUR_LINKS_SHORT 6u
+#define CONTOUR_POINTS_SHORT 7u
+#define CONTOUR_DIRECTORY_SHORT 8u
+#define CONTOUR_BAD_RING_SET 9u
+#define CONTOUR_TEXT_SHORT 10u
+#define CONTOUR_BAD_RING 11u
+/* No call here returns this: those of contour_easy.h do where malloc has nothing left. */
+#define CONTOUR_NO_MEMORY 255u
+
+/* The classes of a ring, and the owner of one that has none. */
+#define CONTOUR_POLYGON 0u
+#define CONTOUR_HOLE 1u
+#define CONTOUR_LINE 2u
+#define CONTOUR_NO_OWNER 4294967295u
+
+/* What contour_contains answers. */
+#define CONTOUR_INSIDE 1
+#define CONTOUR_BOUNDARY 0
+#define CONTOUR_OUTSIDE (-1)
+
+/* The limits: of a side, of a coordinate, of the points of one ring, and of the stack that a call takes. */
+#define CONTOUR_SIDE_LIMIT 4096u
+#define CONTOUR_COORDINATE_LIMIT 8192u
+#define CONTOUR_POINT_LIMIT 67108864u
+#define CONTOUR_STACK_BYTES 16384u
+
+/* The words of a directory record: how many, and which is which. */
+#define CONTOUR_RECORD_WORDS 4u
+#define CONTOUR_RECORD_FIRST 0u
+#define CONTOUR_RECORD_COUNT 1u
+#define CONTOUR_RECORD_CLASS 2u
+#define CONTOUR_RECORD_OWNER 3u
+
+/* The words of each table, by what the reports give. */
+#define CONTOUR_OPEN_WORDS(peak, dx) (4 * (size_t)(peak) + (size_t)(dx) + 2)
+#define CONTOUR_LINK_WORDS(segments) (2 * (size_t)(segments))
+#define CONTOUR_POINT_WORDS(points) (2 * (size_t)(points))
+#define CONTOUR_DIRECTORY_WORDS(rings) (CONTOUR_RECORD_WORDS * (size_t)(rings))
+
 #ifdef __cplusplus
 extern "C" {
 #endif
+
+/* What a returned number says, in words, without a point at the end. Never NULL. */
+static inline const char *contour_strerror(uint32_t number) {
+    switch (number) {
+    case CONTOUR_OK:
+        return "no refusal";
+    case CONTOUR_BAD_SIDE:
+        return "a side of the terrain is 0 or above 4,096";
+    case CONTOUR_BAD_VALUE_COUNT:
+        return "the number of values is not columns times rows";
+    case CONTOUR_FEW_THRESHOLDS:
+        return "the list has fewer than two thresholds";
+    case CONTOUR_NO_PAIR:
+        return "the list has no pair of thresholds k and k + 1";
+    case CONTOUR_OPEN_SHORT:
+        return "the open table is short";
+    case CONTOUR_LINKS_SHORT:
+        return "the link table is short";
+    case CONTOUR_POINTS_SHORT:
+        return "the points are short";
+    case CONTOUR_DIRECTORY_SHORT:
+        return "the directory is short";
+    case CONTOUR_BAD_RING_SET:
+        return "the ring set is faulty";
+    case CONTOUR_TEXT_SHORT:
+        return "the room for the text is short";
+    case CONTOUR_BAD_RING:
+        return "a ring is empty or odd, has over 67,108,864 points or a coordinate above 8,192";
+    case CONTOUR_NO_MEMORY:
+        return "there is no memory left";
+    default:
+        return "no number of this library";
+    }
+}
 
 /*
  * Counts S and H with no table at all.
@@ -145,6 +262,14 @@ uint32_t contour_band_second_report(const double *values, size_t count, const do
  * points. A ring is a polygon when an even number of the other rings have a contour_contains for it that is
  * not -1, else an interior, of class 1. An interior belongs to the first polygon in this order whose
  * contour_contains for it is not -1.
+ *
+ * What to expect of it. Where the terrain jumps over the band from one sample to the next, a ring of the one
+ * threshold shares edges with a ring of the other. Polygons may then touch themselves, their holes or each other
+ * along edges, which readers of maps such as GEOS, shapely and PostGIS call invalid; an interior may belong to a
+ * polygon that it is not in; and rings may be dropped, so that a sample between the thresholds is in no polygon:
+ * of the rows 2 2 2, 2 1 2 and 2 2 0 the band from 1 to 2 has no polygon at all. For a map, draw
+ * contour_contours at 1 of a terrain that is 1 where low <= value < high and 0 elsewhere: its polygons have the
+ * same edges midway between samples, hold every sample of the band and no other, and are valid.
  *
  * Or returns 1, 2, 3, 4, 5, 6, 7 or 8; points, directory and *rings then stay as they were.
  */

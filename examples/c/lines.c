@@ -43,8 +43,8 @@ static void *room(size_t words, size_t size) {
 
 /* Leaves the program unless a call succeeded. */
 static void demand(uint32_t number) {
-    if (number != 0) {
-        printf("refusal %" PRIu32 "\n", number);
+    if (number != CONTOUR_OK) {
+        printf("refusal %" PRIu32 ": %s\n", number, contour_strerror(number));
         exit(1);
     }
 }
@@ -62,11 +62,11 @@ static void draw(const char *title, struct terrain t, uint32_t smooth, struct pl
     size_t count = t.dx * t.dy;
     uint32_t segments, rings, peak, points;
     demand(contour_first_report(t.values, count, threshold, t.dx, t.dy, &segments, &peak));
-    size_t lines_words = 4 * (size_t)peak + t.dx + 2, links_words = 2 * (size_t)segments;
+    size_t lines_words = CONTOUR_OPEN_WORDS(peak, t.dx), links_words = CONTOUR_LINK_WORDS(segments);
     uint32_t *lines = room(lines_words, sizeof *lines), *links = room(links_words, sizeof *links);
     demand(contour_second_report(t.values, count, threshold, t.dx, t.dy, lines, lines_words, links, links_words,
                                  &segments, &rings, &peak, &points));
-    size_t points_words = 2 * (size_t)points, directory_words = 4 * (size_t)rings;
+    size_t points_words = CONTOUR_POINT_WORDS(points), directory_words = CONTOUR_DIRECTORY_WORDS(rings);
     double *drawn = room(points_words, sizeof *drawn);
     uint32_t *directory = room(directory_words, sizeof *directory);
     demand(contour_lines(t.values, count, threshold, t.dx, t.dy, smooth, at.x_origin, at.y_origin, at.x_step,
@@ -74,8 +74,8 @@ static void draw(const char *title, struct terrain t, uint32_t smooth, struct pl
                          directory_words, &rings));
     puts(title);
     for (uint32_t k = 0; k < rings; k++) {
-        const uint32_t *record = directory + 4 * k;
-        print_line(drawn + 2 * (size_t)record[0], record[1]);
+        const uint32_t *record = directory + CONTOUR_DIRECTORY_WORDS(k);
+        print_line(drawn + 2 * (size_t)record[CONTOUR_RECORD_FIRST], record[CONTOUR_RECORD_COUNT]);
     }
     free(lines);
     free(links);

@@ -13,7 +13,6 @@
 #define DY 3
 #define COUNT (DX * DY)
 #define LEVELS 3
-#define NOBODY UINT32_MAX
 
 /* A plate with a hole and a peak, and a small hill beside it. */
 static const double values[COUNT] = {1, 1, 1, 1, 1, 0, 2, 1, 0, 1, 2, 1, 0, 1, 1, 1, 1, 1, 1, 0, 0};
@@ -38,8 +37,8 @@ static void *room(size_t words, size_t size) {
 
 /* Leaves the program unless a call succeeded. */
 static void demand(uint32_t number) {
-    if (number != 0) {
-        printf("refusal %" PRIu32 "\n", number);
+    if (number != CONTOUR_OK) {
+        printf("refusal %" PRIu32 ": %s\n", number, contour_strerror(number));
         exit(1);
     }
 }
@@ -47,8 +46,8 @@ static void demand(uint32_t number) {
 /* The work tables, by what a first report gave. */
 static struct tables work_tables(uint32_t segments, uint32_t peak) {
     struct tables t;
-    t.lines_words = 4 * (size_t)peak + DX + 2;
-    t.links_words = 2 * (size_t)segments;
+    t.lines_words = CONTOUR_OPEN_WORDS(peak, DX);
+    t.links_words = CONTOUR_LINK_WORDS(segments);
     t.lines = room(t.lines_words, sizeof *t.lines);
     t.links = room(t.links_words, sizeof *t.links);
     return t;
@@ -56,17 +55,21 @@ static struct tables work_tables(uint32_t segments, uint32_t peak) {
 
 /* The outputs, by what a second report gave. */
 static void add_outputs(struct tables *t, uint32_t rings, uint32_t points) {
-    t->points_words = 2 * (size_t)points;
-    t->directory_words = 4 * (size_t)rings;
+    t->points_words = CONTOUR_POINT_WORDS(points);
+    t->directory_words = CONTOUR_DIRECTORY_WORDS(rings);
     t->points = room(t->points_words, sizeof *t->points);
     t->directory = room(t->directory_words, sizeof *t->directory);
 }
 
+static const uint32_t *record_of(const struct tables *t, uint32_t number) {
+    return t->directory + CONTOUR_DIRECTORY_WORDS(number);
+}
+
 static void print_ring(const char *what, const struct tables *t, uint32_t number) {
-    const uint32_t *record = t->directory + 4 * number;
-    const uint16_t *ring = t->points + 2 * record[0];
+    const uint32_t *record = record_of(t, number);
+    const uint16_t *ring = t->points + 2 * record[CONTOUR_RECORD_FIRST];
     fputs(what, stdout);
-    for (uint32_t k = 0; k < record[1]; k++) {
+    for (uint32_t k = 0; k < record[CONTOUR_RECORD_COUNT]; k++) {
         printf("(%d,%d)", ring[2 * k], ring[2 * k + 1]);
     }
     putchar('\n');
@@ -75,18 +78,18 @@ static void print_ring(const char *what, const struct tables *t, uint32_t number
 /* Each polygon with the holes that it owns, then the dropped holes. Gives the tables up. */
 static void print_regions(struct tables *t, uint32_t rings) {
     for (uint32_t polygon = 0; polygon < rings; polygon++) {
-        if (t->directory[4 * polygon + 2] != 0) {
+        if (record_of(t, polygon)[CONTOUR_RECORD_CLASS] != CONTOUR_POLYGON) {
             continue;
         }
         print_ring("polygon ", t, polygon);
         for (uint32_t hole = 0; hole < rings; hole++) {
-            if (hole != polygon && t->directory[4 * hole + 3] == polygon) {
+            if (hole != polygon && record_of(t, hole)[CONTOUR_RECORD_OWNER] == polygon) {
                 print_ring("  hole ", t, hole);
             }
         }
     }
     for (uint32_t hole = 0; hole < rings; hole++) {
-        if (t->directory[4 * hole + 3] == NOBODY) {
+        if (record_of(t, hole)[CONTOUR_RECORD_OWNER] == CONTOUR_NO_OWNER) {
             print_ring("dropped ", t, hole);
         }
     }

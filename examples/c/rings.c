@@ -36,8 +36,8 @@ static void *room(size_t words, size_t size) {
 
 /* Leaves the program unless a call succeeded. */
 static void demand(uint32_t number) {
-    if (number != 0) {
-        printf("refusal %" PRIu32 "\n", number);
+    if (number != CONTOUR_OK) {
+        printf("refusal %" PRIu32 ": %s\n", number, contour_strerror(number));
         exit(1);
     }
 }
@@ -47,14 +47,14 @@ static struct tables lend_tables(void) {
     struct tables t;
     uint32_t segments, rings, peak, points;
     demand(contour_first_report(values, COUNT, threshold, DX, DY, &segments, &peak));
-    t.lines_words = 4 * (size_t)peak + DX + 2;
-    t.links_words = 2 * (size_t)segments;
+    t.lines_words = CONTOUR_OPEN_WORDS(peak, DX);
+    t.links_words = CONTOUR_LINK_WORDS(segments);
     t.lines = room(t.lines_words, sizeof *t.lines);
     t.links = room(t.links_words, sizeof *t.links);
     demand(contour_second_report(values, COUNT, threshold, DX, DY, t.lines, t.lines_words, t.links, t.links_words,
                                  &segments, &rings, &peak, &points));
-    t.points_words = 2 * (size_t)points;
-    t.directory_words = 4 * (size_t)rings;
+    t.points_words = CONTOUR_POINT_WORDS(points);
+    t.directory_words = CONTOUR_DIRECTORY_WORDS(rings);
     t.points = room(t.points_words, sizeof *t.points);
     t.directory = room(t.directory_words, sizeof *t.directory);
     return t;
@@ -77,11 +77,11 @@ int main(void) {
     demand(contour_rings(values, COUNT, threshold, DX, DY, t.lines, t.lines_words, t.links, t.links_words, t.points,
                          t.points_words, t.directory, t.directory_words, &rings));
     for (uint32_t k = 0; k < rings; k++) {
-        const uint32_t *record = t.directory + 4 * k;
-        print_ring(k, t.points + 2 * record[0], 2 * (size_t)record[1]);
+        const uint32_t *record = t.directory + CONTOUR_DIRECTORY_WORDS(k);
+        print_ring(k, t.points + 2 * record[CONTOUR_RECORD_FIRST], 2 * (size_t)record[CONTOUR_RECORD_COUNT]);
     }
 
-    const uint32_t *hole = t.directory, *outer = t.directory + 4;
+    const uint32_t *hole = t.directory, *outer = t.directory + CONTOUR_RECORD_WORDS;
     demand(contour_contains(t.points + 2 * outer[0], 2 * (size_t)outer[1], t.points + 2 * hole[0],
                             2 * (size_t)hole[1], &answer));
     printf("ring 1 against ring 0: %" PRId32 "\n", answer);

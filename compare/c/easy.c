@@ -1,0 +1,192 @@
+/*
+ * contour_easy.h against the exact calls in tables of their own, on random terrains with one set of tables for all;
+ * what it says where it is refused or has no memory; pointers that are NULL with a count of 0; and the words of
+ * contour_strerror.
+ */
+#include "checks.h"
+
+/* Memory that ends: so many more calls of malloc succeed. */
+static long left_to_take = -1;
+
+static void *scarce(size_t bytes) {
+    if (left_to_take == 0) {
+        return NULL;
+    }
+    left_to_take -= left_to_take > 0;
+    return malloc(bytes);
+}
+
+#define malloc scarce
+#include "contour_easy.h"
+#undef malloc
+
+#define SIDE 12
+#define TERRAINS 2000
+
+static const contour_placement nowhere = {0, 0, 1, 1}, somewhere = {3, -7, 0.5, -2};
+
+/* Exact tables for the largest terrain that is drawn here. */
+static uint32_t lines[4 * SIDE + SIDE + 2], links[4 * SIDE * SIDE + 4 * SIDE], directory[4 * SIDE * SIDE];
+static uint16_t points[8 * SIDE * SIDE];
+static double vertices[8 * SIDE * SIDE];
+static uint8_t text[1 << 16];
+
+#define WORDS(table) (table), sizeof(table) / sizeof *(table)
+#define WORK WORDS(lines), WORDS(links)
+
+/* Whether the records in the easy tables are those in ours. */
+static int same_records(const contour_tables *tables, uint32_t rings) {
+    return tables->rings == rings && (rings == 0 || memcmp(tables->directory, directory, 16 * (size_t)rings) == 0);
+}
+
+/* Whether each ring of the easy tables has the points and the record that ours has. */
+static int same_rings(const contour_tables *tables, uint32_t rings) {
+    int same = same_records(tables, rings);
+    for (uint32_t k = 0; same && k < rings; k++) {
+        const uint32_t *record = directory + 4 * k;
+        contour_ring ring = contour_easy_ring(tables, k);
+        same = ring.number == k && ring.count == record[1] && ring.ring_class == record[2] &&
+               ring.owner == record[3] && memcmp(ring.points, points + 2 * record[0], 4 * (size_t)record[1]) == 0;
+    }
+    return same;
+}
+
+static int same_lines(const contour_tables *tables, uint32_t rings) {
+    int same = same_records(tables, rings);
+    for (uint32_t k = 0; same && k < rings; k++) {
+        const uint32_t *record = directory + 4 * k;
+        contour_line line = contour_easy_line(tables, k);
+        same = line.number == k && line.count == record[1] &&
+               memcmp(line.vertices, vertices + 2 * record[0], 16 * (size_t)record[1]) == 0;
+    }
+    return same;
+}
+
+static int same_text(contour_tables *tables, uint32_t rings) {
+    uint64_t length;
+    return contour_geojson(WORDS(points), WORDS(directory), rings, WORDS(text), &length) == CONTOUR_OK &&
+           contour_easy_geojson(tables) == CONTOUR_OK && tables->text_length == length &&
+           memcmp(tables->text, text, length) == 0 && tables->text[length] == 0;
+}
+
+static void try_terrains(void) {
+    contour_tables tables = contour_easy_tables();
+    double values[SIDE * SIDE];
+    for (int n = 0; n < TERRAINS; n++) {
+        size_t dx = 1 + below(SIDE), dy = 1 + below(SIDE), count = dx * dy;
+        double pair[2] = {below(6), below(6)}, t = pair[0];
+        contour_terrain terrain = {values, count, dx, dy};
+        contour_placement at = n % 2 ? nowhere : somewhere;
+        uint32_t r = 0;
+        fill(values, count);
+        CHECK(contour_rings(values, count, t, dx, dy, WORK, WORDS(points), WORDS(directory), &r) == CONTOUR_OK);
+        CHECK(contour_easy_rings(&tables, terrain, t) == CONTOUR_OK && same_rings(&tables, r));
+        CHECK(contour_easy_geojson(&tables) == (r == 0 ? CONTOUR_OK : CONTOUR_BAD_RING_SET));
+        CHECK(contour_contours(values, count, t, dx, dy, WORK, WORDS(points), WORDS(directory), &r) == CONTOUR_OK);
+        CHECK(contour_easy_contours(&tables, terrain, t) == CONTOUR_OK && same_rings(&tables, r));
+        CHECK(same_text(&tables, r));
+        CHECK(contour_isobands(values, count, pair, 2, 0, dx, dy, WORK, WORDS(points), WORDS(directory), &r) ==
+              CONTOUR_OK);
+        CHECK(contour_easy_isobands(&tables, terrain, pair, 2, 0) == CONTOUR_OK && same_rings(&tables, r));
+        CHECK(same_text(&tables, r));
+        CHECK(contour_lines(values, count, t, dx, dy, n % 3 != 0, at.x_origin, at.y_origin, at.x_step, at.y_step,
+                            WORK, WORDS(vertices), WORDS(directory), &r) == CONTOUR_OK);
+        CHECK(contour_easy_lines(&tables, terrain, t, n % 3 != 0, at) == CONTOUR_OK && same_lines(&tables, r));
+    }
+    contour_easy_free(&tables);
+    CHECK(tables.rings == 0 && tables.points == NULL && tables.points_words == 0);
+}
+
+static void try_refusals(void) {
+    const double values[] = {2, 2, 2, 2, 1, 2, 2, 2, 0}, pair[] = {1, 2};
+    const contour_terrain whole = {values, 9, 3, 3}, short_of_one = {values, 8, 3, 3}, flat = {values, 9, 9, 0};
+    contour_tables tables = contour_easy_tables();
+    CHECK(contour_easy_contours(&tables, whole, 1) == CONTOUR_OK && tables.rings == 1);
+    CHECK(contour_easy_contours(&tables, short_of_one, 1) == CONTOUR_BAD_VALUE_COUNT && tables.rings == 0);
+    CHECK(contour_easy_rings(&tables, flat, 1) == CONTOUR_BAD_SIDE && tables.rings == 0);
+    CHECK(contour_easy_lines(&tables, flat, 1, 1, nowhere) == CONTOUR_BAD_SIDE);
+    CHECK(contour_easy_isobands(&tables, whole, pair, 1, 0) == CONTOUR_FEW_THRESHOLDS);
+    CHECK(contour_easy_isobands(&tables, whole, pair, 2, 1) == CONTOUR_NO_PAIR && tables.rings == 0);
+    /* What contour.h says of bands: this one has rings, and no polygon. */
+    CHECK(contour_easy_isobands(&tables, whole, pair, 2, 0) == CONTOUR_OK && tables.rings > 0);
+    for (uint32_t k = 0; k < tables.rings; k++) {
+        CHECK(contour_easy_ring(&tables, k).ring_class == CONTOUR_HOLE);
+    }
+    contour_easy_free(&tables);
+}
+
+/* With memory for fewer tables than a figure and its text take, there is none for the figure; and the next call,
+ * with memory again, draws it. */
+static void try_scarce_memory(void) {
+    const double values[] = {1, 1, 1, 1, 0, 1, 1, 1, 1};
+    const contour_terrain terrain = {values, 9, 3, 3};
+    for (long taken = 0; taken <= 5; taken++) {
+        contour_tables tables = contour_easy_tables();
+        uint32_t drawn, written = CONTOUR_NO_MEMORY;
+        left_to_take = taken;
+        drawn = contour_easy_contours(&tables, terrain, 1);
+        if (drawn == CONTOUR_OK) {
+            written = contour_easy_geojson(&tables);
+        }
+        left_to_take = -1;
+        CHECK(drawn == (taken < 4 ? CONTOUR_NO_MEMORY : CONTOUR_OK) && tables.rings == (taken < 4 ? 0 : 2));
+        CHECK(written == (taken < 5 ? CONTOUR_NO_MEMORY : CONTOUR_OK));
+        CHECK(contour_easy_contours(&tables, terrain, 1) == CONTOUR_OK && tables.rings == 2);
+        CHECK(contour_easy_geojson(&tables) == CONTOUR_OK && tables.text_length == strlen(tables.text));
+        contour_easy_free(&tables);
+    }
+}
+
+/* NULL where the count is 0: refused as any short table is, and taken where nothing is needed. */
+static void try_null(void) {
+    const double one[] = {1}, pair[] = {2, 3};
+    uint32_t a, b, c, d, open[3] = {0};
+    uint64_t length;
+    int64_t area;
+    int32_t answer = 7;
+    uint8_t room[64];
+    uint16_t ring[] = {2, 1, 1, 0, 0, 1, 1, 2, 2, 1};
+    CHECK(contour_first_report(NULL, 0, 1, 1, 1, &a, &b) == CONTOUR_BAD_VALUE_COUNT);
+    CHECK(contour_first_report(NULL, 0, 1, 0, 1, &a, &b) == CONTOUR_BAD_SIDE);
+    CHECK(contour_band_first_report(one, 1, NULL, 0, 0, 1, 1, &a, &b) == CONTOUR_FEW_THRESHOLDS);
+    CHECK(contour_second_report(one, 1, 1, 1, 1, NULL, 0, NULL, 0, &a, &b, &c, &d) == CONTOUR_OPEN_SHORT);
+    CHECK(contour_second_report(one, 1, 2, 1, 1, open, 3, NULL, 0, &a, &b, &c, &d) == CONTOUR_OK && a == 0);
+    CHECK(contour_band_second_report(one, 1, pair, 2, 0, 1, 1, open, 3, NULL, 0, &a, &b, &c, &d) == CONTOUR_OK);
+    CHECK(contour_rings(one, 1, 1, 1, 1, NULL, 0, NULL, 0, NULL, 0, NULL, 0, &a) == CONTOUR_OPEN_SHORT);
+    CHECK(contour_rings(one, 1, 2, 1, 1, open, 3, NULL, 0, NULL, 0, NULL, 0, &a) == CONTOUR_OK && a == 0);
+    CHECK(contour_contours(one, 1, 2, 1, 1, open, 3, NULL, 0, NULL, 0, NULL, 0, &a) == CONTOUR_OK && a == 0);
+    CHECK(contour_lines(one, 1, 2, 1, 1, 1, 0, 0, 1, 1, open, 3, NULL, 0, NULL, 0, NULL, 0, &a) == CONTOUR_OK);
+    CHECK(contour_isobands(one, 1, pair, 2, 0, 1, 1, open, 3, NULL, 0, NULL, 0, NULL, 0, &a) == CONTOUR_OK);
+    CHECK(contour_area(NULL, 0, &area) == CONTOUR_BAD_RING);
+    CHECK(contour_contains(NULL, 0, NULL, 0, &answer) == CONTOUR_BAD_RING);
+    CHECK(contour_contains(ring, 10, NULL, 0, &answer) == CONTOUR_OK && answer == CONTOUR_BOUNDARY);
+    CHECK(contour_check(NULL, 0, NULL, 0, 0) == CONTOUR_OK);
+    CHECK(contour_check(NULL, 0, NULL, 0, 1) == CONTOUR_BAD_RING_SET);
+    CHECK(contour_geojson_length(NULL, 0, NULL, 0, 0, &length) == CONTOUR_OK && length == 40);
+    CHECK(contour_geojson(NULL, 0, NULL, 0, 0, NULL, 0, &length) == CONTOUR_TEXT_SHORT);
+    CHECK(contour_geojson(NULL, 0, NULL, 0, 0, room, sizeof room, &length) == CONTOUR_OK);
+}
+
+/* Each number has words of its own. */
+static void try_words(void) {
+    const uint32_t numbers[] = {0, 1, 2, 3, 4, 5, 6, 7, 8, 9, 10, 11, CONTOUR_NO_MEMORY, 1000};
+    const size_t count = sizeof numbers / sizeof *numbers;
+    char version[32];
+    for (size_t k = 0; k < count; k++) {
+        CHECK(contour_strerror(numbers[k]) != NULL && strlen(contour_strerror(numbers[k])) > 8);
+        for (size_t n = 0; n < k; n++) {
+            CHECK(strcmp(contour_strerror(numbers[k]), contour_strerror(numbers[n])) != 0);
+        }
+    }
+    sprintf(version, "%d.%d.%d", CONTOUR_VERSION_MAJOR, CONTOUR_VERSION_MINOR, CONTOUR_VERSION_PATCH);
+    CHECK(strcmp(version, CONTOUR_VERSION) == 0);
+}
+
+int main(void) {
+    try_terrains();
+    try_refusals();
+    try_scarce_memory();
+    try_null();
+    try_words();
+    return finish("easy");
+}

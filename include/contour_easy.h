@@ -1,0 +1,245 @@
+/*
+ * The calls of contour.h in their easy form: a terrain is one value, the tables belong to a struct and grow as a
+ * call needs them, and a figure is one call. Plain C99, and C++ as well; there is nothing more to link.
+ *
+ *     const double values[] = {1, 1, 1, 1, 0, 1, 1, 1, 1};
+ *     const contour_terrain terrain = {values, 9, 3, 3};
+ *     contour_tables tables = contour_easy_tables();
+ *     uint32_t number = contour_easy_contours(&tables, terrain, 1);
+ *     if (number != CONTOUR_OK)
+ *         fprintf(stderr, "%s\n", contour_strerror(number));
+ *     for (uint32_t k = 0; k < tables.rings; k++) {
+ *         contour_ring ring = contour_easy_ring(&tables, k);
+ *         ...
+ *     }
+ *     contour_easy_free(&tables);
+ *
+ * A drawing call returns CONTOUR_OK, a refusal that contour.h lists for it (5, 6, 7, 8 and 10 never, since every
+ * table is long enough), or CONTOUR_NO_MEMORY. A figure stays in the tables until the next drawing call; where
+ * that is refused the tables hold none. The tables serve one thread at a time.
+ *
+ * They are sized by the first report alone, since R is at most a fourth of the segments: so a terrain is stitched
+ * once. Words that are not needed are never written.
+ */
+#ifndef CONTOUR_EASY_H
+#define CONTOUR_EASY_H
+
+#include "contour.h"
+
+#include <stdlib.h>
+#include <string.h>
+
+/* Dx columns and dy rows of samples, row after row, and how many values there are. */
+typedef struct contour_terrain {
+    const double *values;
+    size_t count, dx, dy;
+} contour_terrain;
+
+/* Where lines stand: x at x * x_step + x_origin, and y likewise. {0, 0, 1, 1} places nothing. */
+typedef struct contour_placement {
+    double x_origin, y_origin, x_step, y_step;
+} contour_placement;
+
+/* A figure and its tables. The first part is for reading, the rest is how the tables are kept. */
+typedef struct contour_tables {
+    /* How many rings or lines the figure has; its records, and its points: of rings, or of lines. */
+    uint32_t rings;
+    uint32_t *directory;
+    uint16_t *points;
+    double *vertices;
+    /* The text of contour_easy_geojson, a null byte behind it, and its length without that. */
+    char *text;
+    size_t text_length;
+
+    uint32_t *lines, *links;
+    size_t directory_words, points_words, vertices_words, text_bytes, lines_words, links_words;
+} contour_tables;
+
+/* A ring of a figure: its record number, class and owner, and so many points x, y. */
+typedef struct contour_ring {
+    uint32_t number, ring_class, owner, count;
+    const uint16_t *points;
+} contour_ring;
+
+/* A line of a figure: its record number, and so many vertices x, y. */
+typedef struct contour_line {
+    uint32_t number, count;
+    const double *vertices;
+} contour_line;
+
+/* Tables without room. */
+static inline contour_tables contour_easy_tables(void) {
+    contour_tables tables;
+    memset(&tables, 0, sizeof tables);
+    return tables;
+}
+
+/* Gives all memory back. The tables are then as new. */
+static inline void contour_easy_free(contour_tables *tables) {
+    free(tables->directory);
+    free(tables->points);
+    free(tables->vertices);
+    free(tables->text);
+    free(tables->lines);
+    free(tables->links);
+    *tables = contour_easy_tables();
+}
+
+/* Ring k of a figure, for k below tables->rings. */
+static inline contour_ring contour_easy_ring(const contour_tables *tables, uint32_t k) {
+    const uint32_t *record = tables->directory + CONTOUR_RECORD_WORDS * (size_t)k;
+    contour_ring ring;
+    ring.number = k;
+    ring.ring_class = record[CONTOUR_RECORD_CLASS];
+    ring.owner = record[CONTOUR_RECORD_OWNER];
+    ring.count = record[CONTOUR_RECORD_COUNT];
+    ring.points = tables->points + 2 * (size_t)record[CONTOUR_RECORD_FIRST];
+    return ring;
+}
+
+/* Line k of what contour_easy_lines has drawn, for k below tables->rings. */
+static inline contour_line contour_easy_line(const contour_tables *tables, uint32_t k) {
+    const uint32_t *record = tables->directory + CONTOUR_RECORD_WORDS * (size_t)k;
+    contour_line line;
+    line.number = k;
+    line.count = record[CONTOUR_RECORD_COUNT];
+    line.vertices = tables->vertices + 2 * (size_t)record[CONTOUR_RECORD_FIRST];
+    return line;
+}
+
+/* A table of as many words as are needed or more, with its number of words in *words: the one that is there, or
+ * another. Where there is no memory, *words is 0. */
+static inline void *contour_easy_room(void *table, size_t *words, size_t needed, size_t size) {
+    if (needed <= *words)
+        return table;
+    free(table);
+    table = malloc(needed * size);
+    *words = table != NULL ? needed : 0;
+    return table;
+}
+
+/* Room in the work tables and the directory for one or two sets of rings, by a first report. Sets *most to the
+ * number of points that there are at most. */
+static inline uint32_t contour_easy_lend(contour_tables *tables, size_t dx, size_t sets, uint32_t segments,
+                                         uint32_t peak, size_t *most) {
+    size_t rings = sets * segments / 4;
+    size_t lines_words = CONTOUR_OPEN_WORDS(peak, dx), links_words = CONTOUR_LINK_WORDS(segments);
+    size_t directory_words = CONTOUR_DIRECTORY_WORDS(rings);
+    tables->lines = (uint32_t *)contour_easy_room(tables->lines, &tables->lines_words, lines_words, 4);
+    tables->links = (uint32_t *)contour_easy_room(tables->links, &tables->links_words, links_words, 4);
+    tables->directory =
+        (uint32_t *)contour_easy_room(tables->directory, &tables->directory_words, directory_words, 4);
+    *most = sets * segments + rings;
+    if (tables->lines_words < lines_words || tables->links_words < links_words ||
+        tables->directory_words < directory_words)
+        return CONTOUR_NO_MEMORY;
+    return CONTOUR_OK;
+}
+
+/* The same, and room for so many points. */
+static inline uint32_t contour_easy_lend_points(contour_tables *tables, size_t dx, size_t sets, uint32_t segments,
+                                                uint32_t peak) {
+    size_t most, needed;
+    uint32_t number = contour_easy_lend(tables, dx, sets, segments, peak, &most);
+    if (number != CONTOUR_OK)
+        return number;
+    needed = CONTOUR_POINT_WORDS(most);
+    tables->points = (uint16_t *)contour_easy_room(tables->points, &tables->points_words, needed, 2);
+    return tables->points_words < needed ? CONTOUR_NO_MEMORY : CONTOUR_OK;
+}
+
+/* Empties the figure. */
+static inline void contour_easy_clear(contour_tables *tables) {
+    tables->rings = 0;
+    tables->text_length = 0;
+}
+
+/* What contour_rings and contour_contours have in common. */
+typedef uint32_t contour_easy_build(const double *, size_t, double, size_t, size_t, uint32_t *, size_t, uint32_t *,
+                                    size_t, uint16_t *, size_t, uint32_t *, size_t, uint32_t *);
+
+static inline uint32_t contour_easy_draw(contour_tables *tables, contour_terrain terrain, double threshold,
+                                         contour_easy_build *build) {
+    uint32_t segments, peak, number;
+    contour_easy_clear(tables);
+    number = contour_first_report(terrain.values, terrain.count, threshold, terrain.dx, terrain.dy, &segments, &peak);
+    if (number == CONTOUR_OK)
+        number = contour_easy_lend_points(tables, terrain.dx, 1, segments, peak);
+    if (number != CONTOUR_OK)
+        return number;
+    return build(terrain.values, terrain.count, threshold, terrain.dx, terrain.dy, tables->lines,
+                 tables->lines_words, tables->links, tables->links_words, tables->points, tables->points_words,
+                 tables->directory, tables->directory_words, &tables->rings);
+}
+
+/* The rings, as contour_rings draws them. */
+static inline uint32_t contour_easy_rings(contour_tables *tables, contour_terrain terrain, double threshold) {
+    return contour_easy_draw(tables, terrain, threshold, contour_rings);
+}
+
+/* The contour, as contour_contours draws it: polygons and holes. */
+static inline uint32_t contour_easy_contours(contour_tables *tables, contour_terrain terrain, double threshold) {
+    return contour_easy_draw(tables, terrain, threshold, contour_contours);
+}
+
+/* The band of thresholds k and k + 1 of a list, as contour_isobands draws it: see there what to expect. */
+static inline uint32_t contour_easy_isobands(contour_tables *tables, contour_terrain terrain,
+                                             const double *thresholds, size_t thresholds_count, size_t k) {
+    uint32_t segments, peak, number;
+    contour_easy_clear(tables);
+    number = contour_band_first_report(terrain.values, terrain.count, thresholds, thresholds_count, k, terrain.dx,
+                                       terrain.dy, &segments, &peak);
+    if (number == CONTOUR_OK)
+        number = contour_easy_lend_points(tables, terrain.dx, 2, segments, peak);
+    if (number != CONTOUR_OK)
+        return number;
+    return contour_isobands(terrain.values, terrain.count, thresholds, thresholds_count, k, terrain.dx, terrain.dy,
+                            tables->lines, tables->lines_words, tables->links, tables->links_words, tables->points,
+                            tables->points_words, tables->directory, tables->directory_words, &tables->rings);
+}
+
+/* The lines, as contour_lines draws them, smoothed unless smooth is 0. */
+static inline uint32_t contour_easy_lines(contour_tables *tables, contour_terrain terrain, double threshold,
+                                          uint32_t smooth, contour_placement at) {
+    uint32_t segments, peak, number;
+    size_t most, needed;
+    contour_easy_clear(tables);
+    number = contour_first_report(terrain.values, terrain.count, threshold, terrain.dx, terrain.dy, &segments, &peak);
+    if (number == CONTOUR_OK)
+        number = contour_easy_lend(tables, terrain.dx, 1, segments, peak, &most);
+    if (number != CONTOUR_OK)
+        return number;
+    needed = CONTOUR_POINT_WORDS(most);
+    tables->vertices =
+        (double *)contour_easy_room(tables->vertices, &tables->vertices_words, needed, sizeof(double));
+    if (tables->vertices_words < needed)
+        return CONTOUR_NO_MEMORY;
+    return contour_lines(terrain.values, terrain.count, threshold, terrain.dx, terrain.dy, smooth, at.x_origin,
+                         at.y_origin, at.x_step, at.y_step, tables->lines, tables->lines_words, tables->links,
+                         tables->links_words, tables->vertices, tables->vertices_words, tables->directory,
+                         tables->directory_words, &tables->rings);
+}
+
+/* Writes the contour or the band in the tables as GeoJSON, as contour_geojson does, to tables->text. Returns
+ * CONTOUR_BAD_RING_SET for bare rings and lines, which have no polygons. */
+static inline uint32_t contour_easy_geojson(contour_tables *tables) {
+    uint64_t length;
+    uint32_t number;
+    tables->text_length = 0;
+    number = contour_geojson_length(tables->points, tables->points_words, tables->directory,
+                                    tables->directory_words, tables->rings, &length);
+    if (number != CONTOUR_OK)
+        return number;
+    tables->text = (char *)contour_easy_room(tables->text, &tables->text_bytes, (size_t)length + 1, 1);
+    if (tables->text_bytes <= length)
+        return CONTOUR_NO_MEMORY;
+    number = contour_geojson(tables->points, tables->points_words, tables->directory, tables->directory_words,
+                             tables->rings, (uint8_t *)tables->text, tables->text_bytes, &length);
+    if (number != CONTOUR_OK)
+        return number;
+    tables->text_length = (size_t)length;
+    tables->text[length] = 0;
+    return CONTOUR_OK;
+}
+
+#endif
