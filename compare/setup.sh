@@ -1,5 +1,5 @@
 # Packages, our static library and cargo, for the scripts that hold our library against the crate,
-# compare/run and bench/run, and for ./draw and compare/outside. They source this file, with $root at the
+# compare/run and bench/run, and for ./draw, ./install and compare/outside. They source this file, with $root at the
 # top of the repository.
 
 build=$root/target/compare
@@ -7,6 +7,8 @@ target=x86_64-unknown-linux-gnu
 packages=(rustc cargo librust-slab-dev librust-rustc-hash-dev librust-lazy-static-dev librust-geo-types-dev)
 linker=cc
 nm=nm
+cargo=/usr/bin/cargo
+rustc=/usr/bin/rustc
 emulator=()
 
 # Our library is x86-64 code. Any other processor takes a cross linker and runs all programs in an emulator.
@@ -84,21 +86,21 @@ find_features() {
     fi
 }
 
-# A command of Debian's own cargo for a package, whatever else is on the path, with no settings of the user's. The
+# A command of cargo for a package, Debian's own whatever else is on the path, with no settings of the user's. The
 # folder compare/ says where the dependencies stand, so cargo is called there.
 cargo_for() {
     local command=$1 package=$2
     shift 2
     (
         unset RUSTFLAGS CARGO_ENCODED_RUSTFLAGS CARGO_BUILD_RUSTFLAGS RUSTC_WRAPPER CARGO_BUILD_TARGET
-        export RUSTC=/usr/bin/rustc RUSTDOC=/usr/bin/rustdoc CARGO_HOME=$build/cargo CARGO_TARGET_DIR=$build
+        export RUSTC=$rustc RUSTDOC=${rustc%c}doc CARGO_HOME=$build/cargo CARGO_TARGET_DIR=$build
         export CONTOUR_C_FOLDER=$build/lib CARGO_TARGET_X86_64_UNKNOWN_LINUX_GNU_LINKER=$linker
         if [ $native = no ]; then
             export CARGO_ENCODED_RUSTFLAGS=--sysroot=$build/std/usr
             export CARGO_TARGET_X86_64_UNKNOWN_LINUX_GNU_RUNNER=${emulator[*]}
         fi
         cd "$root/compare"
-        /usr/bin/cargo "$command" --quiet --release --offline --target "$target" \
+        "$cargo" "$command" --quiet --release --offline --target "$target" \
             --manifest-path "$package/Cargo.toml" "$@"
     )
 }
