@@ -1,6 +1,7 @@
 //! Draws the contour, the band or the lines of a terrain that it reads from a file, and writes them as
 //! GeoJSON, as a picture or as counts: help.txt. The library draws, and writes the GeoJSON of regions.
 
+mod called;
 mod drawing;
 mod fields;
 mod header;
@@ -14,25 +15,25 @@ use std::path::Path;
 use std::process::ExitCode;
 use std::{env, fs};
 
-const HELP: &str = include_str!("../help.txt");
-
 /// The exit statuses of what cannot be read or drawn, and of a faulty command.
 const FAILED: u8 = 1;
 const MISUSED: u8 = 2;
 
 fn main() -> ExitCode {
+    let name = called::name();
     let text = match options::parse(env::args_os().skip(1)) {
-        Ok(Command::Help) => Ok(HELP.to_owned()),
+        _ if called::asks_version() => Ok(called::version()),
+        Ok(Command::Help) => Ok(called::help()),
         Ok(Command::Draw(options)) => draw(&options),
         Err(fault) => {
-            eprintln!("draw: {fault}\nTry 'draw --help'.");
+            eprintln!("{name}: {fault}\nTry '{name} --help'.");
             return ExitCode::from(MISUSED);
         }
     };
     match text.and_then(|text| print(&text)) {
         Ok(()) => ExitCode::SUCCESS,
         Err(why) => {
-            eprintln!("draw: {why}");
+            eprintln!("{name}: {why}");
             ExitCode::from(FAILED)
         }
     }
