@@ -55,12 +55,14 @@ in_words() {
 # Reads what rt says while it proves, and prints a line for each crate. What is not about a crate that is proved goes
 # to a file; what rt says of a crate that is not proved is printed too.
 show_progress() {
-    local log=$1 word crate line began=$SECONDS count=0 all=0 left=0 spent=0
+    local log=$1 word crate line began=$SECONDS took count=0 all=0 left=0 spent=0
     local -A weights
     while read -r crate word; do
         weights[$crate]=$word
         left=$((left + word)) all=$((all + 1))
     done < <(weighed_crates)
+    # Writing the library proves its own crate once more.
+    left=$((left + ${weights[contour_c]:-0}))
     while IFS= read -r line; do
         echo "$line" >>"$log"
         case $line in
@@ -70,8 +72,8 @@ show_progress() {
             case $line in
             *unchanged*) began=$SECONDS spent=0 ;;
             *)
-                spent=$((spent + ${weights[$crate]:-0}))
-                echo "proved $crate, $count of $all crates, $(in_words $(((SECONDS - began) * left / spent)))"
+                spent=$((spent + ${weights[$crate]:-0})) took=$((SECONDS - began))
+                echo "proved $crate, $count of $all crates, $(in_words $(((took > 0 ? took : 1) * left / spent)))"
                 ;;
             esac
             ;;
@@ -106,6 +108,10 @@ place_library() {
         cmp -s "$CONTOUR_C_LIB" "$placed" || cp "$CONTOUR_C_LIB" "$placed"
         return
     fi
+    command -v rt >/dev/null || {
+        echo "there is no rt on the path: the Rattle toolchain proves the library" >&2
+        return 1
+    }
     sources=$(library_sources)
     if [ ! -f "$placed" ] || [ ! -f "$made_from" ] || [ "$sources" != "$(cat "$made_from")" ]; then
         prove_library
