@@ -9,7 +9,8 @@ done
 packages=("${needed[@]}")
 
 # Where Debian's rustc and cargo are missing, those on the path do as well.
-if [ $native = yes ] && ! [ -x /usr/bin/cargo -a -x /usr/bin/rustc ] && command -v cargo rustc >/dev/null; then
+if [ "$native" = yes ] && ! { [ -x "$cargo" ] && [ -x "$rustc" ]; } &&
+    command -v cargo >/dev/null && command -v rustc >/dev/null; then
     cargo=$(command -v cargo)
     rustc=$(command -v rustc)
     packages=()
