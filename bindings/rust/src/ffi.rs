@@ -1,4 +1,4 @@
-//! The functions of include/contour.h that the wrapper calls.
+//! The functions of include/contour.h, all of them: compare and bench declare them by this file too.
 
 extern "C" {
     pub fn contour_first_report(
@@ -9,6 +9,21 @@ extern "C" {
         dy: usize,
         segments: *mut u32,
         peak: *mut u32,
+    ) -> u32;
+    pub fn contour_second_report(
+        values: *const f64,
+        count: usize,
+        threshold: f64,
+        dx: usize,
+        dy: usize,
+        lines: *mut u32,
+        lines_words: usize,
+        links: *mut u32,
+        links_words: usize,
+        segments: *mut u32,
+        rings: *mut u32,
+        peak: *mut u32,
+        points: *mut u32,
     ) -> u32;
     pub fn contour_rings(
         values: *const f64,
@@ -52,6 +67,23 @@ extern "C" {
         dy: usize,
         segments: *mut u32,
         peak: *mut u32,
+    ) -> u32;
+    pub fn contour_band_second_report(
+        values: *const f64,
+        count: usize,
+        thresholds: *const f64,
+        thresholds_count: usize,
+        k: usize,
+        dx: usize,
+        dy: usize,
+        lines: *mut u32,
+        lines_words: usize,
+        links: *mut u32,
+        links_words: usize,
+        segments: *mut u32,
+        rings: *mut u32,
+        peak: *mut u32,
+        points: *mut u32,
     ) -> u32;
     pub fn contour_isobands(
         values: *const f64,

@@ -24,6 +24,8 @@
 #![warn(missing_docs)]
 
 mod drawn;
+// The wrapper asks no second report; compare and bench do.
+#[allow(dead_code)]
 mod ffi;
 mod geojson;
 mod refusal;
