@@ -97,6 +97,24 @@ static void try_terrains(void) {
     CHECK(tables.rings == 0 && tables.points == NULL && tables.points_words == 0);
 }
 
+/* Samples that stand alone: of four segments each, so that no table has a word to spare. */
+static void try_full_tables(void) {
+    const double alone[] = {1, 0, 1, 0, 0, 0, 1, 0, 1}, pair[] = {1, 1};
+    for (size_t side = 1; side <= 3; side += 2) {
+        const contour_terrain terrain = {alone, side * side, side, side};
+        uint32_t rings = side == 1 ? 1 : 4;
+        contour_tables tables = contour_easy_tables();
+        CHECK(contour_easy_rings(&tables, terrain, 1) == CONTOUR_OK && tables.rings == rings);
+        CHECK(tables.directory_words == 4 * rings && tables.points_words == 10 * rings);
+        contour_easy_free(&tables);
+        CHECK(contour_easy_lines(&tables, terrain, 1, 0, nowhere) == CONTOUR_OK && tables.rings == rings);
+        contour_easy_free(&tables);
+        CHECK(contour_easy_isobands(&tables, terrain, pair, 2, 0) == CONTOUR_OK && tables.rings == 2 * rings);
+        CHECK(tables.directory_words == 8 * rings && tables.points_words == 20 * rings);
+        contour_easy_free(&tables);
+    }
+}
+
 static void try_refusals(void) {
     const double values[] = {2, 2, 2, 2, 1, 2, 2, 2, 0}, pair[] = {1, 2};
     const contour_terrain whole = {values, 9, 3, 3}, short_of_one = {values, 8, 3, 3}, flat = {values, 9, 9, 0};
@@ -184,6 +202,7 @@ static void try_words(void) {
 
 int main(void) {
     try_terrains();
+    try_full_tables();
     try_refusals();
     try_scarce_memory();
     try_null();
