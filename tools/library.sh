@@ -26,22 +26,37 @@ library_sources() {
     )
 }
 
-# A line 'CRATE WEIGHT' for each crate that contour_c is proved with. The time of a check goes most nearly with the
-# bytes of the crate's code, and there is something to do for a crate without any.
-weighed_crates() {
-    local crate
+# A line for each crate that contour_c is proved with, behind those that it needs: its name and what it needs.
+needed_crates() {
     awk '{ sub(/#.*/, "") } /:/ { name = $1; sub(/:.*/, "", name); sub(/^[^:]*:/, ""); needs[name] = $0 }
         function visit(name, list, k, count) {
             if (name in seen || !(name in needs)) return
             seen[name] = 1
             count = split(needs[name], list, " ")
             for (k = 1; k <= count; k++) visit(list[k])
-            print name
+            print name, needs[name]
         }
-        END { visit("contour_c") }' "$root/crates.txt" |
-        while read -r crate; do
-            echo "$crate $((600 + $(cat "$root/crates/$crate"/src/*.rt | wc -c)))"
+        END { visit("contour_c") }' "$root/crates.txt"
+}
+
+# Whether a crate looks as if it had to be proved: it never was, or a file of it is newer.
+looks_unproved() {
+    local stamp=$root/target/stamp/$1
+    [ ! -f "$stamp" ] || [ -n "$(find "$root/crates/$1" -newer "$stamp" -name '*.*t' -print -quit)" ]
+}
+
+# Sets, for each crate, $weights to what proving it takes and $due to the same if that is to be done, else 0. The
+# time of a check goes most nearly with the bytes of the crate's code, and there is something to do for a crate
+# without any.
+weigh_crates() {
+    local crate needs need
+    while read -r crate needs; do
+        weights[$crate]=$((600 + $(cat "$root/crates/$crate"/src/*.rt | wc -c))) due[$crate]=0
+        ! looks_unproved "$crate" || due[$crate]=${weights[$crate]}
+        for need in $needs; do
+            [ "${due[$need]:-0}" = 0 ] || due[$crate]=${weights[$crate]}
         done
+    done < <(needed_crates)
 }
 
 # A time that is left, in words.
@@ -53,32 +68,27 @@ in_words() {
     fi
 }
 
-# Reads what rt says while it proves, and prints a line for each crate. What is not about a crate that is proved goes
-# to a file; what rt says of a crate that is not proved is printed too.
+# Reads what rt says while it proves, and prints a line for each crate that it proves or does not. A file has it all.
 show_progress() {
-    local log=$1 word crate line began=$SECONDS took count=0 all=0 left=0 spent=0
-    local -A weights
-    while read -r crate word; do
-        weights[$crate]=$word
-        left=$((left + word)) all=$((all + 1))
-    done < <(weighed_crates)
+    local log=$1 crate line began=$SECONDS took count=0 left=0 spent=0
+    local -A weights due
+    weigh_crates
+    for crate in "${!due[@]}"; do
+        left=$((left + due[$crate]))
+    done
     # Writing the library proves its own crate once more.
-    left=$((left + ${weights[contour_c]:-0}))
+    left=$((left + weights[contour_c]))
     while IFS= read -r line; do
         echo "$line" >>"$log"
+        crate=${line#rt: } crate=${crate%% *}
         case $line in
+        "rt: "*" proved (unchanged"*) count=$((count + 1)) left=$((left - due[$crate])) ;;
         "rt: "*" proved ("*)
-            crate=${line#rt: } crate=${crate%% *} count=$((count + 1))
-            left=$((left - ${weights[$crate]:-0}))
-            case $line in
-            *unchanged*) began=$SECONDS spent=0 ;;
-            *)
-                spent=$((spent + ${weights[$crate]:-0})) took=$((SECONDS - began))
-                echo "proved $crate, $count of $all crates, $(in_words $(((took > 0 ? took : 1) * left / spent)))"
-                ;;
-            esac
+            count=$((count + 1)) left=$((left - due[$crate])) spent=$((spent + weights[$crate]))
+            took=$((SECONDS - began))
+            echo "proved $crate, $count of ${#due[@]} crates, $(in_words $(((took > 0 ? took : 1) * left / spent)))"
             ;;
-        *"NOT PROVED"* | *FAILED* | *rror*) echo "$line" ;;
+        "rt: "*"NOT PROVED"* | "rt: FAILED"*) echo "$line" ;;
         esac
     done
 }
