@@ -16,7 +16,7 @@ from pathlib import Path
 ROOT = Path(__file__).resolve().parents[2]
 PICTURE = ROOT / "docs" / "house.svg"
 
-MARGIN, TITLE, WIDE, HIGH = 16, 130, 118, 26
+MARGIN, TITLE, WIDE, HIGH = 16, 165, 118, 26
 ACROSS, DOWN, BETWEEN, EDGE = 34, 12, 40, 9
 COLOURS = ["#e8e8e8", "#d5e8f7", "#d3efe4", "#e3edc9", "#fbe7c8", "#f9d9d2", "#ecdcf2", "#dadff5", "#e5e0d5"]
 
