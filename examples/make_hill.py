@@ -2,7 +2,7 @@
 """Writes hill.asc beside this file: hills about a lake with an island, as an ESRI ASCII grid.
 
     python3 examples/make_hill.py
-    ./draw examples/hill.asc 500 --svg > examples/hill.svg
+    ./draw examples/hill.asc 200 300 400 500 600 700 --levels --svg > examples/hill.svg
 
 Heights are in metres. The lake has no data. The same file comes out each time.
 """

@@ -15,14 +15,7 @@ pub fn name() -> String {
 
 /// The help with that name in the place of the checkout's.
 pub fn help() -> String {
-    HELP.replace("./draw", "draw")
-        .replace("draw FILE", &format!("{} FILE", name()))
-}
-
-/// Whether the version alone is asked for.
-pub fn asks_version() -> bool {
-    let mut words = env::args_os().skip(1);
-    words.next().map_or(false, |word| word == "--version") && words.next().is_none()
+    HELP.replace("draw FILE", &format!("{} FILE", name()))
 }
 
 /// The name of the product and its version.

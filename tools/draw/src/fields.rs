@@ -1,4 +1,5 @@
-//! The fields of a line of text, and where each stands.
+//! The lines of a text, the fields of a line, and where each stands, so that a fault can say where it is.
+//! Lines end as on any system; fields stand between blanks, or between commas.
 
 use std::fmt;
 
@@ -12,43 +13,63 @@ pub struct Fault {
 
 impl fmt::Display for Fault {
     fn fmt(&self, f: &mut fmt::Formatter) -> fmt::Result {
-        write!(
-            f,
-            "line {}, column {}: {}",
-            self.line, self.column, self.what
-        )
+        let Fault { line, column, what } = self;
+        write!(f, "line {line}, column {column}: {what}")
     }
 }
 
-/// A line of a text, with its number.
+/// A line of a text with its number, of which the fields from a byte on are still to be read.
 #[derive(Clone, Copy)]
 pub struct Line<'a> {
     pub text: &'a str,
     pub number: usize,
+    from: usize,
 }
 
-/// A field of a line: its text, which is empty where a comma has nothing before or behind it, and its place.
-#[derive(Clone, Copy)]
-pub struct Field<'a> {
-    pub text: &'a str,
-    line: Line<'a>,
-    at: usize,
-}
-
-/// The lines of a text that are not blank.
+/// The lines of a text, which end by a line feed, a carriage return, or both. There is one at least.
 pub fn lines(text: &str) -> impl Iterator<Item = Line<'_>> {
-    let numbered = (1..).zip(text.lines());
-    let lines = numbered.map(|(number, text)| Line { text, number });
-    lines.filter(|line| !line.text.trim().is_empty())
+    let fed = text.split('\n');
+    let broken = fed.flat_map(|line| line.strip_suffix('\r').unwrap_or(line).split('\r'));
+    let numbered = (1..).zip(broken);
+    numbered.map(|(number, text)| Line {
+        text,
+        number,
+        from: 0,
+    })
 }
 
 impl<'a> Line<'a> {
-    /// Its fields, separated by whitespace, or by a comma with or without whitespace about it.
+    /// The line up to a comment, which runs from a # to its end.
+    pub fn before_comment(self) -> Self {
+        let text = self.text.split('#').next().unwrap_or("");
+        Line { text, ..self }
+    }
+
+    /// The line with this field of it as the next to be read.
+    pub fn from(self, field: &Field) -> Self {
+        Line {
+            from: field.at,
+            ..self
+        }
+    }
+
+    /// Its words, separated by blanks alone.
+    pub fn words(self) -> Fields<'a> {
+        self.fields_by(&[])
+    }
+
+    /// Its fields, separated by blanks, or by a comma with or without blanks about it.
     pub fn fields(self) -> Fields<'a> {
+        self.fields_by(&[','])
+    }
+
+    fn fields_by(self, commas: &'static [char]) -> Fields<'a> {
         Fields {
             line: self,
-            at: 0,
-            open: false,
+            at: self.from,
+            commas,
+            separator: None,
+            mixed: false,
         }
     }
 
@@ -67,12 +88,28 @@ impl<'a> Line<'a> {
     }
 }
 
+/// A field of a line: its text, which is empty where a comma has nothing before or behind it, and its place.
+#[derive(Clone, Copy)]
+pub struct Field<'a> {
+    pub text: &'a str,
+    line: Line<'a>,
+    at: usize,
+    /// Ahead of it, one field follows another behind a comma, and one behind a blank alone.
+    mixed: bool,
+}
+
 impl Field<'_> {
+    /// A fault where the field begins.
     pub fn fault(&self, what: String) -> Fault {
         self.line.fault(self.at, what)
     }
 
+    /// The number that it holds.
     pub fn number(&self) -> Result<f64, Fault> {
+        if self.mixed {
+            let what = "commas and blanks both separate the numbers of this row";
+            return Err(self.fault(format!("{what}; a decimal point is written as a point")));
+        }
         self.text.parse().map_err(|_| match self.text {
             "" => self.fault("a number is missing".to_owned()),
             _ => self.fault(format!("{} is not a number", self.shown())),
@@ -92,17 +129,36 @@ impl Field<'_> {
     }
 }
 
+/// The fields of a line that are still to be read.
 pub struct Fields<'a> {
     line: Line<'a>,
     at: usize,
-    /// A comma stands before what is left.
-    open: bool,
+    commas: &'static [char],
+    /// What stands before the next field, if there is one and it is not the first: a comma, or a blank alone.
+    separator: Option<char>,
+    /// Both kinds have been met.
+    mixed: bool,
 }
 
 impl Fields<'_> {
-    fn skip_whitespace(&mut self) {
+    fn skip_blanks(&mut self) {
         let rest = &self.line.text[self.at..];
         self.at += rest.len() - rest.trim_start().len();
+    }
+
+    /// Goes behind what separates the field before from the next one, and notes which kind it is.
+    fn skip_separator(&mut self) {
+        self.skip_blanks();
+        let rest = &self.line.text[self.at..];
+        let separator = match rest.chars().next() {
+            Some(c) if self.commas.contains(&c) => Some(','),
+            Some(_) => Some(' '),
+            None => None,
+        };
+        self.at += usize::from(separator == Some(','));
+        self.mixed |=
+            separator.is_some() && self.separator.is_some() && separator != self.separator;
+        self.separator = separator;
     }
 }
 
@@ -110,18 +166,23 @@ impl<'a> Iterator for Fields<'a> {
     type Item = Field<'a>;
 
     fn next(&mut self) -> Option<Field<'a>> {
-        self.skip_whitespace();
-        let (at, line) = (self.at, self.line);
+        self.skip_blanks();
+        let (at, line, mixed) = (self.at, self.line, self.mixed);
         let rest = &line.text[at..];
-        if rest.is_empty() && !self.open {
+        // Behind a comma there is a field, if only an empty one.
+        if rest.is_empty() && self.separator != Some(',') {
             return None;
         }
-        let end = rest.find(|c: char| c == ',' || c.is_whitespace());
+        let commas = self.commas;
+        let end = rest.find(|c: char| commas.contains(&c) || c.is_whitespace());
         let text = &rest[..end.unwrap_or(rest.len())];
         self.at += text.len();
-        self.skip_whitespace();
-        self.open = line.text[self.at..].starts_with(',');
-        self.at += usize::from(self.open);
-        Some(Field { text, line, at })
+        self.skip_separator();
+        Some(Field {
+            text,
+            line,
+            at,
+            mixed,
+        })
     }
 }

@@ -1,4 +1,4 @@
-//! The header of an ESRI ASCII grid.
+//! The header of an ESRI ASCII grid: words in any order, each with a value, as GDAL takes them.
 
 use crate::fields::{Fault, Field, Line};
 use nigrulent::Placement;
@@ -9,9 +9,8 @@ pub struct Header {
     pub ncols: usize,
     pub nrows: usize,
     pub nodata: Option<f64>,
-    x: Side,
-    y: Side,
-    cellsize: f64,
+    /// Where lines and polygons of the grid stand on the map.
+    pub placement: Placement,
 }
 
 /// Where the grid begins in the west or in the south: the side itself, or the centre of the cells there.
@@ -22,24 +21,10 @@ enum Side {
 }
 
 impl Side {
-    fn corner(self, cellsize: f64) -> f64 {
+    fn corner(self, cell: f64) -> f64 {
         match self {
             Side::Corner(at) => at,
-            Side::Center(at) => at - cellsize / 2.0,
-        }
-    }
-}
-
-impl Header {
-    /// Where the lines of the grid stand on the map. Rows run from the north to the south, so a step down is
-    /// one to the south, from the north side on.
-    pub fn placement(&self) -> Placement {
-        let cellsize = self.cellsize;
-        Placement {
-            x_origin: self.x.corner(cellsize),
-            y_origin: self.y.corner(cellsize) + self.nrows as f64 * cellsize,
-            x_step: cellsize,
-            y_step: -cellsize,
+            Side::Center(at) => at - cell / 2.0,
         }
     }
 }
@@ -52,53 +37,82 @@ pub struct Words {
     x: Option<Side>,
     y: Option<Side>,
     cellsize: Option<f64>,
+    dx: Option<f64>,
+    dy: Option<f64>,
     nodata: Option<f64>,
 }
 
+/// Whether a word is one of a header.
+pub fn is_word(text: &str) -> bool {
+    const KNOWN: [&str; 10] = [
+        "ncols",
+        "nrows",
+        "xllcorner",
+        "xllcenter",
+        "yllcorner",
+        "yllcenter",
+        "cellsize",
+        "dx",
+        "dy",
+        "nodata_value",
+    ];
+    KNOWN.contains(&text.to_lowercase().as_str())
+}
+
 impl Words {
-    /// Takes a line of the header: a word and its value.
-    pub fn take(&mut self, line: Line) -> Result<(), Fault> {
-        let mut fields = line.fields();
-        let word = fields.next().expect("the line is not blank");
-        let mut value = || {
-            let missing = || line.fault_at_end(format!("{} has no value", word.text));
-            fields.next().ok_or_else(missing)
-        };
-        let known = match word.text.to_lowercase().as_str() {
-            "ncols" => put(&mut self.ncols, word, whole(value()?)?),
-            "nrows" => put(&mut self.nrows, word, whole(value()?)?),
-            "xllcorner" => put(&mut self.x, word, Side::Corner(finite(value()?)?)),
-            "xllcenter" => put(&mut self.x, word, Side::Center(finite(value()?)?)),
-            "yllcorner" => put(&mut self.y, word, Side::Corner(finite(value()?)?)),
-            "yllcenter" => put(&mut self.y, word, Side::Center(finite(value()?)?)),
-            "cellsize" => put(&mut self.cellsize, word, size(value()?)?),
-            "nodata_value" => put(&mut self.nodata, word, value()?.number()?),
-            _ => Err(word.fault(format!(
-                "{} is neither a number nor a header word of an ESRI ASCII grid",
-                word.shown()
-            ))),
-        };
-        known?;
-        match fields.next() {
-            Some(surplus) => Err(surplus.fault(format!("{} has a second value", word.text))),
-            None => Ok(()),
+    /// Takes a word of the header and its value.
+    pub fn take(&mut self, word: Field, value: Field) -> Result<(), Fault> {
+        match word.text.to_lowercase().as_str() {
+            "ncols" => put(&mut self.ncols, word, whole(value)?),
+            "nrows" => put(&mut self.nrows, word, whole(value)?),
+            "xllcorner" => put(&mut self.x, word, Side::Corner(finite(value)?)),
+            "xllcenter" => put(&mut self.x, word, Side::Center(finite(value)?)),
+            "yllcorner" => put(&mut self.y, word, Side::Corner(finite(value)?)),
+            "yllcenter" => put(&mut self.y, word, Side::Center(finite(value)?)),
+            "cellsize" => put(&mut self.cellsize, word, size(value)?),
+            "dx" => put(&mut self.dx, word, size(value)?),
+            "dy" => put(&mut self.dy, word, size(value)?),
+            _ => put(&mut self.nodata, word, value.number()?),
         }
     }
 
-    /// The header, complete, before this line of rows.
+    /// The header, complete, before this line of numbers.
     pub fn finish(&self, line: Line) -> Result<Header, Fault> {
         let missing = |word: &str| Fault {
             line: line.number,
             column: 1,
             what: format!("the header before this line has no {word}"),
         };
+        let nrows = self.nrows.ok_or_else(|| missing("nrows"))?;
         Ok(Header {
             ncols: self.ncols.ok_or_else(|| missing("ncols"))?,
-            nrows: self.nrows.ok_or_else(|| missing("nrows"))?,
-            x: self.x.ok_or_else(|| missing("xllcorner or xllcenter"))?,
-            y: self.y.ok_or_else(|| missing("yllcorner or yllcenter"))?,
-            cellsize: self.cellsize.ok_or_else(|| missing("cellsize"))?,
+            nrows,
             nodata: self.nodata,
+            placement: self.placement(nrows).map_err(missing)?,
+        })
+    }
+
+    /// Rows run from the north to the south, so a step down is one to the south, from the north side on. A
+    /// grid without corners has its north-west corner at 0, 0.
+    fn placement(&self, nrows: usize) -> Result<Placement, &'static str> {
+        let (x_step, height) = match (self.cellsize, self.dx, self.dy) {
+            (Some(size), _, _) => (size, size),
+            (None, Some(dx), Some(dy)) => (dx, dy),
+            (None, Some(_), None) => return Err("dy"),
+            (None, None, Some(_)) => return Err("dx"),
+            (None, None, None) => return Err("cellsize"),
+        };
+        let (x_origin, y_origin) = match (self.x, self.y) {
+            (None, None) => (0.0, 0.0),
+            (None, _) => return Err("xllcorner or xllcenter"),
+            (_, None) => return Err("yllcorner or yllcenter"),
+            (Some(x), Some(y)) => (x.corner(x_step), y.corner(height) + nrows as f64 * height),
+        };
+        Ok(Placement {
+            x_origin,
+            y_origin,
+            x_step,
+            y_step: -height,
         })
     }
 }

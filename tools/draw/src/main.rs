@@ -1,19 +1,33 @@
-//! Draws the contour, the band or the lines of a terrain that it reads from a file, and writes them as
-//! GeoJSON, as a picture or as counts: help.txt. The library draws, and writes the GeoJSON of regions.
+//! Draws the contours, the bands or the lines of a terrain that it reads from a file, and writes them as GeoJSON,
+//! as a picture or as counts: help.txt. The library draws, and writes the GeoJSON of polygons in grid units.
 
+mod axis;
 mod called;
-mod drawing;
+mod colours;
+mod counts;
+mod failure;
 mod fields;
+mod frame;
+mod gdal;
+mod geojson;
 mod header;
+mod layout;
+mod legend;
+mod levels;
 mod options;
+mod paths;
 mod picture;
+mod png;
+mod shapes;
+mod source;
 mod terrain;
+mod words;
 
-use options::{Command, Options};
-use std::io::{self, ErrorKind, Read, Write};
-use std::path::Path;
+use failure::Failure;
+use options::{Command, Form, Options};
+use std::env;
+use std::io::{self, BufWriter, ErrorKind, Write};
 use std::process::ExitCode;
-use std::{env, fs};
 
 /// The exit statuses of what cannot be read or drawn, and of a faulty command.
 const FAILED: u8 = 1;
@@ -21,54 +35,49 @@ const MISUSED: u8 = 2;
 
 fn main() -> ExitCode {
     let name = called::name();
-    let text = match options::parse(env::args_os().skip(1)) {
-        _ if called::asks_version() => Ok(called::version()),
-        Ok(Command::Help) => Ok(called::help()),
+    let done = match options::parse(env::args_os().skip(1)) {
+        Ok(Command::Help) => print(&called::help()),
+        Ok(Command::Version) => print(&called::version()),
         Ok(Command::Draw(options)) => draw(&options),
         Err(fault) => {
             eprintln!("{name}: {fault}\nTry '{name} --help'.");
             return ExitCode::from(MISUSED);
         }
     };
-    match text.and_then(|text| print(&text)) {
-        Ok(()) => ExitCode::SUCCESS,
-        Err(why) => {
-            eprintln!("{name}: {why}");
-            ExitCode::from(FAILED)
+    let sentence = match done {
+        Ok(()) => return ExitCode::SUCCESS,
+        // A reader that has enough and closes the pipe is no failure.
+        Err(Failure::Output(error)) if error.kind() == ErrorKind::BrokenPipe => {
+            return ExitCode::SUCCESS;
         }
-    }
-}
-
-/// What is to be printed; or why there is nothing.
-fn draw(options: &Options) -> Result<String, String> {
-    let (name, bytes) = read(&options.file)?;
-    let terrain = terrain::read(&bytes).map_err(|unread| format!("{name}: {unread}"))?;
-    drop(bytes);
-    drawing::text(&terrain, options).map_err(|why| format!("{name}: {why}"))
-}
-
-/// A file's name for messages, and its bytes.
-fn read(file: &Path) -> Result<(String, Vec<u8>), String> {
-    let (name, bytes) = if file == Path::new("-") {
-        let mut bytes = Vec::new();
-        let read = io::stdin().lock().read_to_end(&mut bytes);
-        ("standard input".to_owned(), read.map(|_| bytes))
-    } else {
-        (file.display().to_string(), fs::read(file))
+        Err(Failure::Output(error)) => format!("output: {error}"),
+        Err(Failure::Said(sentence)) => sentence,
     };
-    match bytes {
-        Ok(bytes) => Ok((name, bytes)),
-        Err(error) => Err(format!("{name}: {error}")),
-    }
+    eprintln!("{name}: {sentence}");
+    ExitCode::from(FAILED)
 }
 
-/// A reader that has enough and closes the pipe is no failure.
-fn print(text: &str) -> Result<(), String> {
-    let mut out = io::stdout().lock();
-    match out.write_all(text.as_bytes()).and_then(|()| out.flush()) {
-        Err(error) if error.kind() != ErrorKind::BrokenPipe => {
-            Err(format!("standard output: {error}"))
-        }
-        _ => Ok(()),
+fn print(text: &str) -> Result<(), Failure> {
+    Ok(io::stdout().write_all(text.as_bytes())?)
+}
+
+/// Reads, draws and writes. What is said of the terrain begins with its file's name.
+fn draw(options: &Options) -> Result<(), Failure> {
+    let name = source::name(&options.file);
+    let of_file = |sentence: String| Failure::Said(format!("{name}: {sentence}"));
+    let mut terrain = source::read(&options.file).map_err(of_file)?;
+    terrain.placement = options.place.placement(terrain.placement);
+    terrain.check_placement().map_err(of_file)?;
+    let slices = options.wanted.slices(&terrain.values).map_err(of_file)?;
+    let mut out = BufWriter::with_capacity(1 << 16, io::stdout().lock());
+    let written = match options.form {
+        Form::GeoJson => geojson::write(&mut out, &terrain, &slices, options),
+        Form::Counts => counts::write(&mut out, &terrain, &slices, options),
+        Form::Svg => picture::write(&mut out, &terrain, &slices, options),
+        Form::Png => png::write(|out| picture::write(out, &terrain, &slices, options)),
+    };
+    match written {
+        Err(Failure::Said(sentence)) => Err(of_file(sentence)),
+        written => written.and_then(|()| Ok(out.flush()?)),
     }
 }

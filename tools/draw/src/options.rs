@@ -1,29 +1,40 @@
-//! The command line.
+//! What the command line asks for: its words are sorted by `words`, and here they are given a meaning, or
+//! refused with a sentence.
 
+use crate::levels::{Heights, Wanted};
+use crate::words::Words;
+use nigrulent::Placement;
 use std::ffi::OsString;
 use std::path::PathBuf;
 
-/// What is asked for.
+/// What is to be done.
 #[derive(Debug, PartialEq)]
 pub enum Command {
     Help,
+    Version,
     Draw(Options),
 }
 
+/// What is drawn of which file, and how.
 #[derive(Debug, PartialEq)]
 pub struct Options {
     pub file: PathBuf,
-    pub levels: Levels,
+    pub wanted: Wanted,
+    pub figure: Figure,
     pub form: Form,
-    /// How lines are drawn, if not regions.
-    pub pen: Option<Pen>,
+    pub place: Place,
+    pub page: Page,
 }
 
-/// One threshold, or the two of a band.
+/// What is drawn of a slice of the heights.
 #[derive(Clone, Copy, Debug, PartialEq)]
-pub enum Levels {
-    One(f64),
-    Band([f64; 2]),
+pub enum Figure {
+    /// Its samples, as polygons with holes.
+    Polygons,
+    /// The library's band.
+    Isobands,
+    /// The lines at its heights.
+    Lines { smooth: bool },
 }
 
 /// What is written.
@@ -31,140 +42,190 @@ pub enum Levels {
 pub enum Form {
     GeoJson,
     Svg,
+    Png,
     Counts,
 }
 
-/// How lines are drawn. What is not given comes from the file.
+/// Where figures stand, if not where the file says.
 #[derive(Clone, Copy, Debug, Default, PartialEq)]
-pub struct Pen {
-    pub smooth: bool,
+pub struct Place {
+    pub grid: bool,
     pub origin: Option<(f64, f64)>,
     pub step: Option<(f64, f64)>,
 }
 
-/// The words of a command line, sorted.
-#[derive(Default)]
-struct Words {
-    plain: Vec<OsString>,
-    svg: bool,
-    counts: bool,
-    lines: bool,
-    pen: Pen,
+/// How a picture looks, where that is not left to the program.
+#[derive(Clone, Debug, Default, PartialEq)]
+pub struct Page {
+    pub width: Option<f64>,
+    pub height: Option<f64>,
+    pub title: Option<String>,
+}
+
+impl Place {
+    /// What the command line says, and for the rest what the file says; none are grid units.
+    pub fn placement(&self, of_file: Option<Placement>) -> Option<Placement> {
+        if self.grid || (self.origin, self.step, of_file) == (None, None, None) {
+            return None;
+        }
+        let mut placement = of_file.unwrap_or_default();
+        if let Some((x, y)) = self.origin {
+            (placement.x_origin, placement.y_origin) = (x, y);
+        }
+        if let Some((x, y)) = self.step {
+            (placement.x_step, placement.y_step) = (x, y);
+        }
+        Some(placement)
+    }
 }
 
 /// Reads the command line without the program's name. A fault is described in a sentence.
 pub fn parse(words: impl IntoIterator<Item = OsString>) -> Result<Command, String> {
-    let mut sorted = Words::default();
-    let mut words = words.into_iter();
-    while let Some(word) = words.next() {
-        let text = word.to_string_lossy().into_owned();
-        let (name, value) = match text.split_once('=') {
-            Some((name, value)) if name.starts_with("--") => (name, Some(value.to_owned())),
-            _ => (text.as_str(), None),
-        };
-        match (name, value) {
-            ("--help" | "-h", None) => return Ok(Command::Help),
-            ("--svg", None) => sorted.svg = true,
-            ("--counts", None) => sorted.counts = true,
-            ("--lines", None) => sorted.lines = true,
-            ("--smooth", None) => sorted.pen.smooth = true,
-            ("--origin", value) => sorted.pen.origin = Some(pair(name, value, &mut words)?),
-            ("--step", value) => sorted.pen.step = Some(pair(name, value, &mut words)?),
-            ("--", None) => sorted.plain.extend(words.by_ref()),
-            ("--help" | "--svg" | "--counts" | "--lines" | "--smooth", Some(_)) => {
-                return Err(format!("{name} takes no value"));
-            }
-            _ if is_option(&text) => return Err(format!("there is no option {text}")),
-            _ => sorted.plain.push(word),
-        }
+    let words = Words::sort(words)?;
+    if words.has("--help") {
+        return Ok(Command::Help);
     }
-    sorted.options().map(Command::Draw)
+    if words.has("--version") {
+        return Ok(Command::Version);
+    }
+    let (file, numbers) = match words.plain.split_first() {
+        Some((file, numbers)) => (PathBuf::from(file), numbers),
+        None => return Err("FILE and THRESHOLD are missing".to_owned()),
+    };
+    let wanted = wanted(&words, numbers)?;
+    Ok(Command::Draw(Options {
+        file,
+        figure: figure(&words, wanted.bands)?,
+        form: form(&words)?,
+        place: place(&words)?,
+        page: page(&words)?,
+        wanted,
+    }))
 }
 
-/// Whether a word that is none of ours is meant as an option. Numbers below 0 are not, nor is '-'.
-fn is_option(text: &str) -> bool {
-    text.starts_with('-') && text != "-" && text.parse::<f64>().is_err()
+/// The heights, one alone or two as a band, or all of them one by one.
+fn wanted(words: &Words, numbers: &[OsString]) -> Result<Wanted, String> {
+    words.exclude("--levels", "--bands")?;
+    let (levels, bands) = (words.has("--levels"), words.has("--bands"));
+    if let Some(step) = words.number("--interval")? {
+        return match (numbers, step > 0.0) {
+            ([], true) => Ok(Wanted {
+                heights: Heights::Every(step),
+                bands,
+                collected: true,
+            }),
+            ([], false) => Err(format!("--interval wants a number above 0, not '{step}'")),
+            _ => Err("--interval takes the place of thresholds".to_owned()),
+        };
+    }
+    let is_band = numbers.len() == 2 && !levels;
+    let names = match is_band && !bands {
+        true => ["LOW", "HIGH"],
+        false => ["THRESHOLD"; 2],
+    };
+    let heights = heights(numbers, names)?;
+    match heights.len() {
+        0 => return Err("THRESHOLD is missing".to_owned()),
+        1 if bands => return Err("--bands wants two thresholds or more".to_owned()),
+        count @ 3.. if !levels && !bands => {
+            return Err(format!(
+                "there are {count} thresholds: --levels draws each of them, --bands what lies between them"
+            ))
+        }
+        _ => (),
+    }
+    Ok(Wanted {
+        heights: Heights::Listed(heights),
+        bands: bands || is_band,
+        collected: levels || bands,
+    })
 }
 
-/// The value of --origin or --step, which may be the next word.
-fn pair(
-    name: &str,
-    value: Option<String>,
-    words: &mut impl Iterator<Item = OsString>,
-) -> Result<(f64, f64), String> {
-    let next = || words.next().map(|word| word.to_string_lossy().into_owned());
-    let text = value.or_else(next).ok_or(format!("{name} wants X,Y"))?;
-    let numbers = text.split_once(',').and_then(|(x, y)| {
-        let [x, y] = [x.trim().parse::<f64>(), y.trim().parse::<f64>()];
-        Some((x.ok()?, y.ok()?))
-    });
-    let (x, y) = numbers.ok_or(format!("{name} wants two numbers X,Y, not '{text}'"))?;
-    if !(x.is_finite() && y.is_finite()) {
-        return Err(format!("{name} wants finite numbers, not '{text}'"));
+/// Numbers that ascend.
+fn heights(numbers: &[OsString], names: [&str; 2]) -> Result<Vec<f64>, String> {
+    let mut heights: Vec<f64> = Vec::new();
+    for (k, word) in numbers.iter().enumerate() {
+        let (text, name) = (word.to_string_lossy(), names[k.min(1)]);
+        let height = match text.trim().parse::<f64>() {
+            Ok(height) if !height.is_nan() => height,
+            _ => return Err(format!("{name} is not a number: '{text}'")),
+        };
+        match heights.last() {
+            Some(before) if names[0] == "LOW" && *before >= height => {
+                return Err(format!("LOW is not below HIGH: {before} and {height}"));
+            }
+            Some(before) if *before >= height => {
+                return Err(format!("thresholds ascend, and {height} follows {before}"));
+            }
+            _ => heights.push(height),
+        }
     }
-    if name == "--step" && (x == 0.0 || y == 0.0) {
-        return Err("a step of 0 leaves nothing to draw".to_owned());
-    }
-    Ok((x, y))
+    Ok(heights)
 }
 
-impl Words {
-    fn options(self) -> Result<Options, String> {
-        let form = self.form()?;
-        let pen = self.pen()?;
-        let number = |name: &str, word: &OsString| {
-            let text = word.to_string_lossy();
-            let number = text.trim().parse::<f64>();
-            number.map_err(|_| format!("{name} is not a number: '{text}'"))
-        };
-        let (file, levels) = match self.plain.as_slice() {
-            [] => return Err("FILE and THRESHOLD are missing".to_owned()),
-            [_] => return Err("THRESHOLD is missing".to_owned()),
-            [file, one] => (file, Levels::One(number("THRESHOLD", one)?)),
-            [file, low, high] => {
-                let pair = [number("LOW", low)?, number("HIGH", high)?];
-                (file, Levels::Band(pair))
-            }
-            [_, _, _, surplus, ..] => {
-                let surplus = surplus.to_string_lossy();
-                return Err(format!("there is one argument too many: '{surplus}'"));
-            }
-        };
-        Ok(Options {
-            file: PathBuf::from(file),
-            levels,
-            form,
-            pen,
-        })
+/// Contours and bands of the library are not smoothed.
+fn figure(words: &Words, bands: bool) -> Result<Figure, String> {
+    words.exclude("--isobands", "--lines")?;
+    let (lines, smooth) = (words.has("--lines"), words.has("--smooth"));
+    match (lines, smooth, words.has("--isobands")) {
+        (true, smooth, _) => Ok(Figure::Lines { smooth }),
+        (false, true, _) => Err("--smooth goes with --lines: polygons are not smoothed".to_owned()),
+        (_, _, true) if !bands => Err("--isobands goes with LOW and HIGH, or --bands".to_owned()),
+        (_, _, true) => Ok(Figure::Isobands),
+        (_, _, false) => Ok(Figure::Polygons),
     }
+}
 
-    fn form(&self) -> Result<Form, String> {
-        match (self.svg, self.counts) {
-            (true, true) => Err("--svg and --counts exclude each other".to_owned()),
-            (true, false) => Ok(Form::Svg),
-            (false, true) => Ok(Form::Counts),
-            (false, false) => Ok(Form::GeoJson),
+fn form(words: &Words) -> Result<Form, String> {
+    let forms = [
+        ("--svg", Form::Svg),
+        ("--png", Form::Png),
+        ("--counts", Form::Counts),
+    ];
+    for (k, (name, _)) in forms.iter().enumerate() {
+        for (other, _) in &forms[k + 1..] {
+            words.exclude(name, other)?;
         }
     }
+    let asked = forms.iter().find(|(name, _)| words.has(name));
+    Ok(asked.map_or(Form::GeoJson, |(_, form)| *form))
+}
 
-    /// Contours and bands of the library are neither smoothed nor placed, and a picture is in grid units.
-    fn pen(&self) -> Result<Option<Pen>, String> {
-        let placing = match (self.pen.origin, self.pen.step) {
-            (Some(_), _) => Some("--origin"),
-            (None, Some(_)) => Some("--step"),
-            (None, None) => None,
-        };
-        match placing {
-            _ if !self.lines && self.pen.smooth => {
-                Err("--smooth goes with --lines: contours and bands are not smoothed".to_owned())
-            }
-            Some(name) if !self.lines => Err(format!(
-                "{name} goes with --lines: contours and bands are not placed"
-            )),
-            Some(name) if self.svg => Err(format!(
-                "{name} does not go with --svg: a picture is in grid units"
-            )),
-            _ => Ok(self.lines.then_some(self.pen)),
+fn place(words: &Words) -> Result<Place, String> {
+    words.exclude("--grid", "--origin")?;
+    words.exclude("--grid", "--step")?;
+    let place = Place {
+        grid: words.has("--grid"),
+        origin: words.pair("--origin")?,
+        step: words.pair("--step")?,
+    };
+    match place.step {
+        Some((x, y)) if x == 0.0 || y == 0.0 => {
+            Err("a step of 0 leaves nothing to draw".to_owned())
         }
+        _ => Ok(place),
     }
+}
+
+/// The size in pixels and the title of a picture.
+fn page(words: &Words) -> Result<Page, String> {
+    let picture = words.has("--svg") || words.has("--png");
+    let named = ["--width", "--height", "--title"]
+        .into_iter()
+        .find(|name| words.has(name));
+    match named {
+        Some(name) if !picture => return Err(format!("{name} goes with --svg or --png")),
+        _ => (),
+    }
+    let side = |name: &str| match words.number(name)? {
+        Some(side) if !(100.0..=20_000.0).contains(&side) => {
+            Err(format!("{name} wants 100 to 20,000 pixels, not {side}"))
+        }
+        side => Ok(side),
+    };
+    Ok(Page {
+        width: side("--width")?,
+        height: side("--height")?,
+        title: words.value("--title").map(str::to_owned),
+    })
 }

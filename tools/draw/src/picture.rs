@@ -1,89 +1,183 @@
-//! Pictures in SVG. A unit is a step from sample to sample, and rows run down.
+//! Pictures in SVG: a map with title, axes, legend and scale. The first row of samples is on top.
 
-use crate::drawing::Line;
-use crate::options::Levels;
+use crate::colours::{self, GROUND, INK, PAPER};
+use crate::failure::Failure;
+use crate::frame;
+use crate::layout::Layout;
+use crate::legend::{self, Legend};
+use crate::levels::Slice;
+use crate::options::{Figure, Options};
+use crate::paths::{self, UNIT};
+use crate::shapes::{self, Line};
 use crate::terrain::Terrain;
-use nigrulent::{Point, Polygon, Regions, Ring};
-use std::fmt::Write;
+use nigrulent::Placement;
+use std::io::{self, Write};
 
-/// The longer side, in pixels.
-const LONGER: f64 = 800.0;
-/// The width of a stroke, in pixels.
-const STROKE: f64 = 1.5;
+/// How wide strokes are at most, in pixels, and as shares of a cell: of a line, and of a region's outline.
+const LINE: (f64, f64) = (1.5, 1.0);
+const OUTLINE: (f64, f64) = (0.8, 0.2);
 
-const GROUND: &str = "#eef1e4";
-const FILL: &str = "#d3b683";
-const INK: &str = "#6a4a2b";
-
-/// Each polygon is a path with its holes, filled by the even-odd rule. Rings of a band may share edges, and
-/// a hole may then belong to a polygon that it is not in; filled together, as one path, they come out right.
-pub fn of_regions(terrain: &Terrain, levels: Levels, regions: &Regions) -> String {
-    let filled = format!("fill=\"{FILL}\" fill-rule=\"evenodd\"");
-    let mut text = begin(terrain, levels, &filled);
-    let mut polygons = regions.polygons.iter().map(Polygon::rings).peekable();
-    match levels {
-        Levels::One(_) => polygons.for_each(|rings| push_path(&mut text, rings)),
-        Levels::Band(_) if polygons.peek().is_none() => (),
-        Levels::Band(_) => push_path(&mut text, polygons.flatten()),
+/// Writes the picture of all slices.
+pub fn write(
+    out: &mut dyn Write,
+    terrain: &Terrain,
+    slices: &[Slice],
+    options: &Options,
+) -> Result<(), Failure> {
+    let no_data = terrain.values.iter().any(|value| value.is_nan());
+    let legend = Legend::new(slices, options.figure, no_data);
+    let title = title(slices, options);
+    let layout = Layout::new(terrain, &options.page, legend.width(), &title)?;
+    frame::begin(out, &layout, &title)?;
+    begin_map(out, &layout, options.figure)?;
+    if no_data {
+        let holes = shapes::no_data(terrain)?;
+        let fill = "fill=\"url(#no-data-drawn)\"";
+        write_path(out, &layout, fill, paths::rings(&holes))?;
     }
-    end(text)
-}
-
-fn push_path<'a>(text: &mut String, rings: impl Iterator<Item = &'a Ring>) {
-    text.push_str("<path d=\"");
-    rings.for_each(|ring| push_ring(text, &ring.points));
-    text.push_str("\"/>\n");
-}
-
-pub fn of_lines(terrain: &Terrain, levels: Levels, lines: &[Line]) -> String {
-    let mut text = begin(terrain, levels, "fill=\"none\"");
-    for line in lines {
-        text.push_str("<polyline points=\"");
-        for (k, &[x, y]) in line.iter().enumerate() {
-            let space = if k == 0 { "" } else { " " };
-            let (x, y) = (rounded(x), rounded(y));
-            write!(text, "{space}{x},{y}").expect("a string takes all text");
-        }
-        text.push_str("\"/>\n");
-    }
-    end(text)
-}
-
-/// Everything up to the shapes, whose group is filled in this way.
-fn begin(terrain: &Terrain, levels: Levels, filled: &str) -> String {
-    let [dx, dy] = [terrain.dx as f64, terrain.dy as f64];
-    let scale = LONGER / dx.max(dy);
-    let [width, height] = [dx, dy].map(|side| (side * scale).round().max(1.0));
-    let stroke = rounded(STROKE / scale);
-    let title = match levels {
-        Levels::One(threshold) => format!("{threshold} and above"),
-        Levels::Band([low, high]) => format!("{low} and above, below {high}"),
+    let drawn = match options.figure {
+        Figure::Lines { smooth } => write_lines(out, terrain, &layout, slices, smooth)?,
+        figure => write_regions(out, terrain, &layout, slices, figure)?,
     };
-    format!(
-        "<?xml version=\"1.0\" encoding=\"UTF-8\"?>\n\
-         <svg xmlns=\"http://www.w3.org/2000/svg\" width=\"{width}\" height=\"{height}\" viewBox=\"0 0 {dx} {dy}\">\n\
-         <title>{title}</title>\n\
-         <rect width=\"{dx}\" height=\"{dy}\" fill=\"{GROUND}\"/>\n\
-         <g {filled} stroke=\"{INK}\" stroke-width=\"{stroke}\" stroke-linejoin=\"round\">\n"
+    out.write_all(b"</g>\n</g>\n")?;
+    if !drawn {
+        write_amid(out, &layout, "no such sample")?;
+    }
+    frame::write_axes(out, &layout)?;
+    legend.write(out, &layout)?;
+    frame::write_scale(out, &layout)?;
+    Ok(out.write_all(b"</svg>\n")?)
+}
+
+/// A text in the middle of the map.
+fn write_amid(out: &mut dyn Write, layout: &Layout, text: &str) -> io::Result<()> {
+    let x = layout.left + layout.map_width / 2.0;
+    let y = layout.top + layout.map_height / 2.0;
+    writeln!(
+        out,
+        "<text x=\"{x:.1}\" y=\"{y:.1}\" text-anchor=\"middle\">{text}</text>"
     )
 }
 
-fn end(mut text: String) -> String {
-    text.push_str("</g>\n</svg>\n");
-    text
-}
-
-/// A ring of doubled points, as halves. Its last point is the first, to which Z goes back.
-fn push_ring(text: &mut String, ring: &[Point]) {
-    for (k, &[x, y]) in ring[..ring.len() - 1].iter().enumerate() {
-        let step = if k == 0 { 'M' } else { 'L' };
-        let (x, y) = (f64::from(x) / 2.0, f64::from(y) / 2.0);
-        write!(text, "{step}{x},{y}").expect("a string takes all text");
+/// The title that is asked for, or the file and its heights.
+fn title(slices: &[Slice], options: &Options) -> String {
+    if let Some(title) = &options.page.title {
+        return title.clone();
     }
-    text.push('Z');
+    let file = options.file.file_name().map(|name| name.to_string_lossy());
+    let file = file
+        .filter(|name| name != "-")
+        .unwrap_or_else(|| "terrain".into());
+    format!("{file}, {}", heights_in_words(slices, options))
 }
 
-/// To a thousandth, which no picture shows.
-fn rounded(x: f64) -> f64 {
-    (x * 1000.0).round() / 1000.0
+fn heights_in_words(slices: &[Slice], options: &Options) -> String {
+    let of_lines = matches!(options.figure, Figure::Lines { .. });
+    match (slices, legend::heights(slices).as_slice()) {
+        (_, [level]) if of_lines => format!("lines at {level}"),
+        (_, [low, high]) if of_lines => format!("lines at {low} and {high}"),
+        ([Slice::Above(level)], _) => format!("{level} and above"),
+        ([Slice::Between(low, high)], _) => format!("{low} to {high}"),
+        (_, [first, .., last]) => {
+            let kind = match (of_lines, options.wanted.bands) {
+                (true, _) => "lines at levels".to_owned(),
+                (false, true) => format!("{} bands", slices.len()),
+                (false, false) => format!("{} levels", slices.len()),
+            };
+            format!("{kind} from {first} to {last}")
+        }
+        _ => "no level parts its heights".to_owned(),
+    }
+}
+
+/// The ground, and the groups in which paths are drawn.
+fn begin_map(out: &mut dyn Write, layout: &Layout, figure: Figure) -> io::Result<()> {
+    let Layout {
+        left,
+        top,
+        map_width,
+        map_height,
+        ..
+    } = layout;
+    let ground = match figure {
+        Figure::Lines { .. } => PAPER,
+        _ => GROUND,
+    };
+    writeln!(
+        out,
+        "<rect x=\"{left:.2}\" y=\"{top:.2}\" width=\"{map_width:.2}\" height=\"{map_height:.2}\" fill=\"{ground}\"/>\n\
+         <g clip-path=\"url(#map)\">\n<g transform=\"scale({UNIT})\" fill-rule=\"evenodd\" stroke-linejoin=\"round\">"
+    )
+}
+
+/// Each slice in its colour, higher ones over lower ones. Returns whether there is any. The rings of the library's
+/// band share edges where no region ends, so they have no outline.
+fn write_regions(
+    out: &mut dyn Write,
+    terrain: &Terrain,
+    layout: &Layout,
+    slices: &[Slice],
+    figure: Figure,
+) -> Result<bool, Failure> {
+    let mut any = false;
+    for (k, slice) in slices.iter().enumerate() {
+        let regions = shapes::polygons(terrain, *slice, figure)?;
+        let fill = colours::of_region(k, slices.len());
+        let outline = match figure {
+            Figure::Isobands => String::new(),
+            _ => format!(
+                " stroke=\"{INK}\" stroke-width=\"{}\"",
+                stroke(layout, OUTLINE)
+            ),
+        };
+        any |= !regions.polygons.is_empty();
+        write_path(
+            out,
+            layout,
+            &format!("fill=\"{fill}\"{outline}"),
+            paths::rings(&regions),
+        )?;
+    }
+    Ok(any)
+}
+
+/// The lines at each height in its colour. Returns whether there is any.
+fn write_lines(
+    out: &mut dyn Write,
+    terrain: &Terrain,
+    layout: &Layout,
+    slices: &[Slice],
+    smooth: bool,
+) -> Result<bool, Failure> {
+    let mut any = false;
+    let heights = legend::heights(slices);
+    for (k, height) in heights.iter().enumerate() {
+        let lines = shapes::lines(terrain, Slice::Above(*height), smooth, Placement::default())?;
+        let (colour, width) = (colours::of_line(k, heights.len()), stroke(layout, LINE));
+        any |= !lines.is_empty();
+        let drawn = format!("fill=\"none\" stroke=\"{colour}\" stroke-width=\"{width}\"");
+        write_path(out, layout, &drawn, lines.into_iter())?;
+    }
+    Ok(any)
+}
+
+/// A stroke's width, where paths are drawn: no more than a share of a cell.
+fn stroke(layout: &Layout, (pixels, share): (f64, f64)) -> f64 {
+    (pixels.min(share * layout.cell()) / UNIT * 100.0).round() / 100.0
+}
+
+/// One path of all rings, if there are any.
+fn write_path(
+    out: &mut dyn Write,
+    layout: &Layout,
+    drawn: &str,
+    rings: impl Iterator<Item = Line>,
+) -> io::Result<()> {
+    let mut rings = rings.peekable();
+    if rings.peek().is_none() {
+        return Ok(());
+    }
+    write!(out, "<path {drawn} d=\"")?;
+    paths::write(out, layout, rings)?;
+    out.write_all(b"\"/>\n")
 }

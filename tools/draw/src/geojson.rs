@@ -1,0 +1,179 @@
+//! Figures as GeoJSON, written as they are drawn: no text is held but that of one figure in grid units, which
+//! the library writes. On a map, polygons run as RFC 7946 asks: exteriors counterclockwise, holes clockwise.
+
+use crate::failure::Failure;
+use crate::levels::Slice;
+use crate::options::{Figure, Options};
+use crate::shapes::{self, Line};
+use crate::terrain::Terrain;
+use nigrulent::{Placement, Point, Refusal, Regions, Vertex};
+use std::io::{self, Write};
+
+/// Writes one figure as a bare geometry, or all of them as a collection, a feature a line.
+pub fn write(
+    out: &mut dyn Write,
+    terrain: &Terrain,
+    slices: &[Slice],
+    options: &Options,
+) -> Result<(), Failure> {
+    let writer = Writer {
+        terrain,
+        figure: options.figure,
+    };
+    if !options.wanted.collected {
+        slices
+            .iter()
+            .try_for_each(|slice| writer.geometry(out, *slice))?;
+        return Ok(out.write_all(b"\n")?);
+    }
+    out.write_all(b"{\"type\":\"FeatureCollection\",\"features\":[")?;
+    for (k, slice) in slices.iter().enumerate() {
+        out.write_all(if k == 0 { b"\n" } else { b",\n" })?;
+        writer.feature(out, *slice)?;
+    }
+    Ok(out.write_all(b"\n]}\n")?)
+}
+
+/// As the library places lines.
+fn placed(placement: Placement, [x, y]: Vertex) -> Vertex {
+    let Placement {
+        x_origin,
+        y_origin,
+        x_step,
+        y_step,
+    } = placement;
+    [x * x_step + x_origin, y * y_step + y_origin]
+}
+
+/// What all figures of a run have in common.
+struct Writer<'a> {
+    terrain: &'a Terrain,
+    figure: Figure,
+}
+
+impl Writer<'_> {
+    fn geometry(&self, out: &mut dyn Write, slice: Slice) -> Result<(), Failure> {
+        match (self.figure, self.terrain.placement) {
+            (Figure::Lines { smooth }, _) => write_lines(out, &self.lines(slice, smooth)?)?,
+            (_, None) => {
+                let text = shapes::polygons_text(self.terrain, slice, self.figure)?;
+                out.write_all(text.as_bytes())?;
+            }
+            (_, Some(_)) => {
+                let regions = shapes::polygons(self.terrain, slice, self.figure)?;
+                write_polygons(out, &regions, self.terrain.placement)?;
+            }
+        }
+        Ok(())
+    }
+
+    /// A figure with its heights, and what there is of it.
+    fn feature(&self, out: &mut dyn Write, slice: Slice) -> Result<(), Failure> {
+        out.write_all(b"{\"type\":\"Feature\",\"properties\":{")?;
+        match slice {
+            Slice::Above(level) => write!(out, "\"value\":{}", number(level))?,
+            Slice::Between(low, high) => {
+                write!(out, "\"low\":{},\"high\":{}", number(low), number(high))?;
+            }
+        }
+        if let Figure::Lines { smooth } = self.figure {
+            let lines = self.lines(slice, smooth)?;
+            write!(out, ",\"lines\":{}}},\"geometry\":", lines.len())?;
+            write_lines(out, &lines)?;
+        } else {
+            let regions = shapes::polygons(self.terrain, slice, self.figure)?;
+            let Placement { x_step, y_step, .. } = self.terrain.placement.unwrap_or_default();
+            let area = number(shapes::area(&regions)? * (x_step * y_step).abs());
+            let polygons = regions.polygons.len();
+            write!(
+                out,
+                ",\"area\":{area},\"polygons\":{polygons}}},\"geometry\":"
+            )?;
+            write_polygons(out, &regions, self.terrain.placement)?;
+        }
+        Ok(out.write_all(b"}")?)
+    }
+
+    fn lines(&self, slice: Slice, smooth: bool) -> Result<Vec<Line>, Refusal> {
+        shapes::lines(
+            self.terrain,
+            slice,
+            smooth,
+            self.terrain.placement.unwrap_or_default(),
+        )
+    }
+}
+
+/// A number of JSON, which has none that is infinite: a band without a bound has null there.
+fn number(number: f64) -> String {
+    match number.is_finite() {
+        true => number.to_string(),
+        false => "null".to_owned(),
+    }
+}
+
+fn write_lines(out: &mut dyn Write, lines: &[Line]) -> io::Result<()> {
+    out.write_all(b"{\"type\":\"MultiLineString\",\"coordinates\":[")?;
+    for (k, line) in lines.iter().enumerate() {
+        write_comma(out, k)?;
+        write_points(out, line.iter().copied())?;
+    }
+    out.write_all(b"]}")
+}
+
+/// Each polygon's ring, and behind it those of its holes.
+fn write_polygons(
+    out: &mut dyn Write,
+    regions: &Regions,
+    placement: Option<Placement>,
+) -> Result<(), Failure> {
+    out.write_all(b"{\"type\":\"MultiPolygon\",\"coordinates\":[")?;
+    for (k, polygon) in regions.polygons.iter().enumerate() {
+        write_comma(out, k)?;
+        out.write_all(b"[")?;
+        write_ring(out, &polygon.exterior.points, placement, true)?;
+        for interior in &polygon.interiors {
+            out.write_all(b",")?;
+            write_ring(out, &interior.points, placement, false)?;
+        }
+        out.write_all(b"]")?;
+    }
+    Ok(out.write_all(b"]}")?)
+}
+
+/// A ring in grid units as it is; on the map so that it runs as it should there.
+fn write_ring(
+    out: &mut dyn Write,
+    ring: &[Point],
+    placement: Option<Placement>,
+    counterclockwise: bool,
+) -> Result<(), Failure> {
+    let halves = ring.iter().map(|point| point.map(|at| f64::from(at) / 2.0));
+    let placement = match placement {
+        None => return Ok(write_points(out, halves)?),
+        Some(placement) => placement,
+    };
+    // A ring of area above 0 runs clockwise where y grows upward, and a map that is turned over turns it over.
+    let turned = placement.x_step * placement.y_step < 0.0;
+    let runs_so = (nigrulent::area(ring)? < 0) != turned;
+    let points = halves.map(|point| placed(placement, point));
+    match runs_so == counterclockwise {
+        true => write_points(out, points)?,
+        false => write_points(out, points.rev())?,
+    }
+    Ok(())
+}
+
+fn write_points(out: &mut dyn Write, points: impl Iterator<Item = Vertex>) -> io::Result<()> {
+    out.write_all(b"[")?;
+    for (k, [x, y]) in points.enumerate() {
+        write_comma(out, k)?;
+        write!(out, "[{x},{y}]")?;
+    }
+    out.write_all(b"]")
+}
+
+/// The comma before all members but the first.
+fn write_comma(out: &mut dyn Write, k: usize) -> io::Result<()> {
+    out.write_all(if k == 0 { b"" } else { b"," })
+}

@@ -1,0 +1,108 @@
+//! What the library draws of a slice of the heights: polygons with their holes, or lines. All calls of the
+//! library that draw stand here.
+
+use crate::levels::Slice;
+use crate::options::Figure;
+use crate::terrain::Terrain;
+use nigrulent::{Placement, Refusal, Regions, Vertex};
+use std::borrow::Cow;
+
+/// A line's vertices, the first repeated last.
+pub type Line = Vec<Vertex>;
+
+/// The polygons about the samples of a slice, in doubled grid units.
+pub fn polygons(terrain: &Terrain, slice: Slice, figure: Figure) -> Result<Regions, Refusal> {
+    match (slice, figure) {
+        (Slice::Between(low, high), Figure::Isobands) => {
+            of_values(terrain, &terrain.values)?.isobands(&[low, high], 0)
+        }
+        _ => {
+            let (values, threshold) = sheet(&terrain.values, slice);
+            of_values(terrain, &values)?.contours(threshold)
+        }
+    }
+}
+
+/// The same as GeoJSON in grid units, in the library's own words.
+pub fn polygons_text(terrain: &Terrain, slice: Slice, figure: Figure) -> Result<String, Refusal> {
+    match (slice, figure) {
+        (Slice::Between(low, high), Figure::Isobands) => {
+            of_values(terrain, &terrain.values)?.isobands_geojson(&[low, high], 0)
+        }
+        _ => {
+            let (values, threshold) = sheet(&terrain.values, slice);
+            of_values(terrain, &values)?.contours_geojson(threshold)
+        }
+    }
+}
+
+/// The polygons about the samples that are not numbers.
+pub fn no_data(terrain: &Terrain) -> Result<Regions, Refusal> {
+    let none = indicator(&terrain.values, f64::is_nan);
+    of_values(terrain, &none)?.contours(1.0)
+}
+
+/// A terrain of the library with the sides of this one.
+fn of_values<'a>(terrain: &Terrain, values: &'a [f64]) -> Result<nigrulent::Terrain<'a>, Refusal> {
+    nigrulent::Terrain::new(values, terrain.dx, terrain.dy)
+}
+
+/// Values and a threshold that they reach exactly in the slice. Between two heights these are 1 inside and 0
+/// outside, so that a band is drawn as a contour is: no two of its rings share an edge.
+fn sheet(values: &[f64], slice: Slice) -> (Cow<'_, [f64]>, f64) {
+    match slice {
+        Slice::Above(level) => (Cow::Borrowed(values), level),
+        Slice::Between(low, high) => {
+            let inside = indicator(values, |value| low <= value && value < high);
+            (Cow::Owned(inside), 1.0)
+        }
+    }
+}
+
+fn indicator(values: &[f64], inside: impl Fn(f64) -> bool) -> Vec<f64> {
+    let inside = values.iter().map(|value| inside(*value));
+    inside.map(|inside| f64::from(u8::from(inside))).collect()
+}
+
+/// What polygons enclose, holes left out, in squares of one step from sample to sample.
+pub fn area(regions: &Regions) -> Result<f64, Refusal> {
+    let mut eighths = 0;
+    for polygon in &regions.polygons {
+        eighths += nigrulent::area(&polygon.exterior.points)?.abs();
+        for interior in &polygon.interiors {
+            eighths -= nigrulent::area(&interior.points)?.abs();
+        }
+    }
+    Ok(eighths as f64 / 8.0)
+}
+
+/// The lines at the heights of a slice, those at the lower one first. Smoothing gives no number beside a sample
+/// that is none, as where there are no data; such a coordinate stays midway.
+pub fn lines(
+    terrain: &Terrain,
+    slice: Slice,
+    smooth: bool,
+    placement: Placement,
+) -> Result<Vec<Line>, Refusal> {
+    let levels = match slice {
+        Slice::Above(level) => vec![level],
+        Slice::Between(low, high) => vec![low, high],
+    };
+    let drawn = |smooth: bool| -> Result<Vec<Line>, Refusal> {
+        let mut lines = Vec::new();
+        for level in &levels {
+            lines.extend(of_values(terrain, &terrain.values)?.lines(*level, smooth, placement)?);
+        }
+        Ok(lines)
+    };
+    let mut lines = drawn(smooth)?;
+    if lines.iter().flatten().flatten().any(|at| !at.is_finite()) {
+        let midway = drawn(false)?;
+        let midway = midway.iter().flatten().flatten();
+        let moved = lines.iter_mut().flatten().flatten().zip(midway);
+        moved
+            .filter(|(at, _)| !at.is_finite())
+            .for_each(|(at, stays)| *at = *stays);
+    }
+    Ok(lines)
+}
