@@ -1,9 +1,9 @@
-"""Has terrains drawn and looks at the drawings with the eyes of others: compare/outside.
+"""Has terrains drawn, and GDAL and other readers look at the drawings. Part of compare/outside.
 
     outside_look.py DRAW EXAMPLES FOLDER
 
 DRAW is the program, EXAMPLES the folder with the hill, FOLDER takes all files. The last line is
-'N looked at, M differ'.
+'N drawings looked at by GDAL, M differ'.
 """
 
 import collections
@@ -12,31 +12,14 @@ import math
 import os
 import pathlib
 import re
-import subprocess
 import sys
 import xml.etree.ElementTree
 
 from outside_terrains import terrains
+from outside_tools import Differs, area, expect, no_number, run
 
 # Samples as GDAL reads them from a grid are doubles.
 os.environ["AAIGRID_DATATYPE"] = "Float64"
-
-
-class Differs(Exception):
-    """What is not as it should be."""
-
-
-def expect(what, found, expected):
-    if found != expected:
-        raise Differs(f"{what}: {found}, expected {expected}")
-
-
-def run(*words):
-    words = [str(word) for word in words]
-    done = subprocess.run(words, stdout=subprocess.PIPE, stderr=subprocess.PIPE, text=True, check=False)
-    if done.returncode != 0:
-        raise Differs(f"{' '.join(words)}: exit status {done.returncode}: {done.stderr.strip()}")
-    return done.stdout
 
 
 class Drawing:
@@ -57,10 +40,6 @@ class Drawing:
         """The counts from the library's tables."""
         lines = self.draw(draw, "--counts").splitlines()
         return {name: int(count) for name, count in map(str.split, lines)}
-
-
-def no_number(word):
-    raise Differs(f"{word} is no number in JSON")
 
 
 def read_json(drawing, text, kind):
@@ -101,23 +80,26 @@ def query(drawing, columns):
     return {name: float(value) for name, value in re.findall(r"^  (\w+) \(.*?\) = (.*)$", found, re.MULTILINE)}
 
 
-def above(drawing):
-    """The rows of samples, 1 where one is above an odd number of the levels: above the only one, or between two."""
-    rows = drawing.terrain.rows
-    return [[sum(sample >= level for level in drawing.levels) % 2 for sample in row] for row in rows]
+def sheets(drawing):
+    """Rows of samples, 1 where one is above: one sheet of a region or a band, or for each level one of lines and of
+    the library's band."""
+    rows, levels = drawing.terrain.rows, drawing.levels
+    if len(levels) == 1 or {"--lines", "--isobands"} & set(drawing.options):
+        return [[[int(sample >= level) for sample in row] for row in rows] for level in levels]
+    low, high = levels
+    return [[[int(low <= sample < high) for sample in row] for row in rows]]
 
 
 def midways(drawing):
-    """The points midway between neighbours of which one is above and one is not, for each level. Nothing is above
+    """The points midway between neighbours of which one is above and one is not, for each sheet. Nothing is above
     outside."""
     points = collections.Counter()
-    for level in drawing.levels:
-        samples = [[sample >= level for sample in row] for row in drawing.terrain.rows]
+    for samples in sheets(drawing):
         for y, row in enumerate(samples):
-            beside = zip([False, *row], [*row, False])
+            beside = zip([0, *row], [*row, 0])
             points.update((x, y + 0.5) for x, (one, other) in enumerate(beside) if one != other)
         for x, column in enumerate(zip(*samples)):
-            beside = zip([False, *column], [*column, False])
+            beside = zip([0, *column], [*column, 0])
             points.update((x + 0.5, y) for y, (one, other) in enumerate(beside) if one != other)
     return points
 
@@ -134,7 +116,10 @@ def dropped_rings(drawing, draw, rings):
     """The lines about the region that are no ring of its polygons, whichever way a ring runs."""
     left = collections.Counter(str(sorted(ring[1:])) for ring in rings)
     dropped = []
-    for line in json.loads(drawing.draw(draw, "--lines", "--origin", "0,0", "--step", "1,1"))["coordinates"]:
+    if "--isobands" not in drawing.options:
+        return dropped
+    lines = run(draw, drawing.file, *drawing.levels, "--lines", "--grid")
+    for line in json.loads(lines)["coordinates"]:
         key = str(sorted(line[1:]))
         if left[key] > 0:
             left[key] -= 1
@@ -142,21 +127,6 @@ def dropped_rings(drawing, draw, rings):
             dropped.append(line)
     expect("rings that are no line", sum(left.values()), 0)
     return dropped
-
-
-# What a cell encloses in eighths of a square, by the number of corners that are above. Two that are opposite: 2.
-EIGHTHS = [0, 1, 4, 7, 8]
-
-
-def area(samples):
-    """The area of a region by its cells, from the samples alone."""
-    empty = [[0] * (len(samples[0]) + 2)]
-    rows = empty + [[0, *row, 0] for row in samples] + empty
-    total = 0
-    for upper, lower in zip(rows, rows[1:]):
-        for a, b, c, d in zip(upper, upper[1:], lower, lower[1:]):
-            total += 2 if a == d != b == c else EIGHTHS[a + b + c + d]
-    return total / 8
 
 
 def filled(file, options, dx, dy):
@@ -173,12 +143,13 @@ def filled(file, options, dx, dy):
 
 
 def look_at_filling(drawing, polygons, dropped):
-    """GDAL fills each polygon by the even-odd rule. Rings of a band may share edges; document 01 then gives a hole to
-    a polygon that it is not in, or drops rings. So of a band all rings are filled together."""
-    samples = above(drawing)
+    """GDAL fills each polygon by the even-odd rule. Rings of the library's band may share edges; document 01 then
+    gives a hole to a polygon that it is not in, or drops rings. So of such a band all rings are filled together."""
+    found_in = sheets(drawing)
+    samples = [[sum(above) % 2 for above in zip(*rows)] for rows in zip(*found_in)]
     dx, dy = len(samples[0]), len(samples)
     file, options = drawing.json, []
-    if len(drawing.levels) == 2:
+    if "--isobands" in drawing.options:
         file, options = file.with_suffix(".all.json"), ["-add"]
         together = polygons + [[ring] for ring in dropped]
         file.write_text(json.dumps({"type": "MultiPolygon", "coordinates": together}), encoding="ascii")
@@ -202,8 +173,7 @@ def look_at_region(drawing, draw):
     look_at_filling(drawing, polygons, dropped)
     if polygons:
         look_at_measures(drawing, counts)
-    paths = len(polygons) if len(drawing.levels) == 1 else min(1, len(polygons))
-    look_at_picture(drawing, draw, "path", paths, len(rings))
+    look_at_picture(drawing, draw, len(rings))
     return ", ".join(f"{name} {count}" for name, count in counts.items())
 
 
@@ -216,23 +186,19 @@ def look_at_measures(drawing, counts):
     expect("polygons", found["polygons"], counts["polygons"])
     expect("rings", found["rings"], counts["polygons"] + counts["holes"])
     expect("vertices", found["vertices"], counts["vertices"])
-    # Rings of two levels may share edges, which is no valid polygon to GDAL.
-    if len(drawing.levels) == 1:
+    # Rings of the library's band may share edges, which is no valid polygon to GDAL.
+    if "--isobands" not in drawing.options:
         expect("valid", found["valid"], 1)
-        expect("area", found["area"], area(above(drawing)))
+        expect("area", found["area"], area(sheets(drawing)[0]))
 
 
-def look_at_picture(drawing, draw, tag, shapes, rings):
-    """A picture is XML with so many shapes; each ring of a path ends with Z."""
+def look_at_picture(drawing, draw, rings):
+    """A picture is XML; on its map each ring ends with z, beside those about samples that are no numbers."""
     svg = "{http://www.w3.org/2000/svg}"
     picture = xml.etree.ElementTree.fromstring(drawing.draw(draw, "--svg").encode())
     expect("picture", picture.tag, svg + "svg")
-    rows = drawing.terrain.rows
-    expect("viewBox", picture.get("viewBox"), f"0 0 {len(rows[0])} {len(rows)}")
-    found = picture.findall(f".//{svg}{tag}")
-    expect("shapes", len(found), shapes)
-    if tag == "path":
-        expect("rings", sum(path.get("d").count("Z") for path in found), rings)
+    drawn = picture.findall(f"./{svg}g[@clip-path]/{svg}g/{svg}path")
+    expect("rings", sum(path.get("d").count("z") for path in drawn if "url" not in path.get("fill")), rings)
 
 
 def look_at_lines(drawing, draw):
@@ -249,7 +215,7 @@ def look_at_lines(drawing, draw):
         look_at_vertices(drawing, lines)
     if "--smooth" in drawing.options and drawing.terrain.stands_free(drawing.levels):
         look_at_contour(drawing, lines)
-    look_at_picture(drawing, draw, "polyline", len(lines), None)
+    look_at_picture(drawing, draw, len(lines))
     return f"lines {len(lines)}, vertices {vertices}"
 
 
@@ -277,7 +243,9 @@ def drawings(folder, examples):
     for terrain in terrains(examples):
         file = terrain.write(folder)
         for level in terrain.levels:
-            yield look_at_region, Drawing(terrain, file, level, (), folder)
+            yield look_at_region, Drawing(terrain, file, level, ("--grid",), folder)
+            if isinstance(level, tuple):
+                yield look_at_region, Drawing(terrain, file, level, ("--grid", "--isobands"), folder)
         for options in [("--lines",), ("--lines", "--smooth")]:
             yield look_at_lines, Drawing(terrain, file, terrain.levels[0], options, folder)
 
@@ -293,7 +261,7 @@ def main(draw, examples, folder):
             differ += 1
             said = f"differs: {str(why)[:1000]}"
         print(f"{drawing.title}: {said}", flush=True)
-    print(f"{looked_at} looked at, {differ} differ")
+    print(f"{looked_at} drawings looked at by GDAL, {differ} differ")
     return 0 if looked_at > 0 and differ == 0 else 1
 
 

@@ -15,10 +15,15 @@ class Terrain:
         self.name = name
         self.rows = rows
         self.levels = levels
-        # A cell size makes it an ESRI ASCII grid, placed by its corner or by the centre of a cell.
+        # A cell size makes it an ESRI ASCII grid, placed by its corner or by the centre of a cell. The cell may
+        # have another height.
         self.cell = cell
+        self.height = cell
         self.center = center
         self.separator = separator
+        self.corner = (1000, -250.5)
+        # Without a header, a step from sample to sample may be asked for.
+        self.step = None
 
     def write(self, folder):
         """Writes the terrain to a file in the folder and returns the file's path."""
@@ -28,15 +33,27 @@ class Terrain:
             lines = [
                 f"nrows {len(self.rows)}",
                 f"NCOLS {len(self.rows[0])}",
-                f"cellsize {self.cell}",
-                f"xll{place} 1000",
-                f"yll{place} -250.5",
+                *([f"cellsize {self.cell}"] if self.cell == self.height else [f"DX {self.cell}", f"dy {self.height}"]),
+                f"xll{place} {self.corner[0]}",
+                f"yll{place} {self.corner[1]}",
             ]
         lines += [self.separator.join(repr(sample) for sample in row) for row in self.rows]
         path = folder / f"{self.name}.{'txt' if self.cell is None else 'asc'}"
         path.write_text("\n".join(lines) + "\n", encoding="ascii")
         return path
 
+    def place(self, x, y):
+        """Where a sample stands: the middle of its cell, on the map the rows from the north to the south."""
+        if self.cell is None:
+            across, down = self.step or (1, 1)
+            return (x + 0.5) * across, (y + 0.5) * down
+        west, south = self.corner
+        half = 0 if self.center else 0.5
+        return west + (x + half) * self.cell, south + (len(self.rows) - 1 - y + half) * self.height
+
+    def cell_area(self):
+        across, down = self.step or (self.cell or 1, self.height or 1)
+        return abs(across * down)
 
     def stands_free(self, levels):
         """Whether it is a grid on a map that is below the levels at its sides, and all numbers."""
@@ -59,6 +76,7 @@ class Stored(Terrain):
         nodata = header.get("nodata_value")
         rows = [[NAN if sample == nodata else sample for sample in row] for row in rows]
         super().__init__(name, rows, levels, cell=header["cellsize"])
+        self.corner = (header["xllcorner"], header["yllcorner"])
         self.path = path
 
     def write(self, folder):
@@ -120,13 +138,13 @@ def terrains(examples):
     """
     odd = [1.0, 0.0, 2.0, NAN, INFINITE, -INFINITE, -0.0, 0.5]
     return [
-        Terrain("one-sample", [[5]], [5, (5, 5), (1, 9)]),
-        Terrain("nothing-above", grid(4, 3, lambda x, y: 0), [1, (1, 2), NAN]),
-        Terrain("all-above", grid(20, 10, lambda x, y: 7), [7, (1, 8), (8, 1)]),
+        Terrain("one-sample", [[5]], [5, (5, 6), (1, 9)]),
+        Terrain("nothing-above", grid(4, 3, lambda x, y: 0), [1, (1, 2)]),
+        Terrain("all-above", grid(20, 10, lambda x, y: 7), [7, (1, 8), (8, 9)]),
         Terrain("hole", drawn("111 1.1 111"), [1]),
         Terrain("saddle", drawn(".1 1."), [1]),
-        Terrain("plate", drawn(plate), [1, 2, (1, 2), (2, 2)]),
-        # Of a band whose rings share edges, document 01 drops these two.
+        Terrain("plate", drawn(plate), [1, 2, (1, 2)]),
+        # Of a band whose rings share edges, the library drops these two.
         Terrain("shared-edges", drawn("222 212 22."), [(1, 2), 1]),
         Terrain("islands", drawn(islands), [1, 2, (1, 2), (0, 1)]),
         Terrain("spiral", drawn(spiral), [1]),
@@ -134,7 +152,7 @@ def terrains(examples):
         Terrain("column", grid(1, 60, lambda x, y: numbers.randrange(3)), [1, (1, 2)]),
         Terrain("wide", grid(4096, 2, lambda x, y: numbers.randrange(3)), [1, (1, 2)]),
         Terrain("odd-values", grid(30, 24, lambda x, y: numbers.choice(odd)), [0, 0.5, INFINITE, (0, 1)]),
-        Terrain("steps", grid(40, 33, lambda x, y: (x * x + y * y) // 90 % 9), [3, 8, (2, 5), (5, 2)], separator=", "),
+        Terrain("steps", grid(40, 33, lambda x, y: (x * x + y * y) // 90 % 9), [3, 8, (2, 5), (5, 8)], separator=", "),
         Terrain("noise", grid(150, 120, lambda x, y: numbers.random()), [0.5, 0.8, (0.3, 0.6)], separator="\t"),
         Terrain("mountains", mountains(90, numbers), [(30.00005, 60.00005), 50, (20, 50)], cell=12.5),
         Terrain("mountains-by-centre", mountains(60, numbers), [45.00005], cell=0.25, center=True),
