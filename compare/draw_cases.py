@@ -1,0 +1,252 @@
+"""What compare/draw_tests asks of ./draw, and what it should answer: small terrains, faulty files and faulty
+commands. What is expected follows from document 01, RFC 7946 and the header's formula, worked out by hand."""
+
+HEADER = "ncols 2\nnrows 3\nxllcorner 100\nyllcorner 200\ncellsize 10\n"
+ROWS = "1 0\n0 0\n0 0\n"
+PLATE = "ncols 3\nnrows 3\nxllcorner 0\nyllcorner 0\ncellsize 2\n1 1 1\n1 0 1\n1 1 1\n"
+ONE = '{"type":"MultiPolygon","coordinates":[[[[1,0.5],[0.5,0],[0,0.5],[0.5,1],[1,0.5]]]]}\n'
+NONE = '{"type":"MultiPolygon","coordinates":[]}\n'
+DIAMOND = "polygons 1\nholes 0\ndropped 0\nvertices 5\n"
+# A terrain whose band from 4 to 6 the library gives without the 5.
+JUMPS = "3 6 8 7 1\n7 7 2 9 6\n8 9 6 8 2\n9 5 8 3 9\n8 9 2 6 4\n"
+BIG = "3.4028234663852886e+38"
+
+
+def header(old, new):
+    assert old in HEADER
+    return HEADER.replace(old, new)
+
+
+def sides(dx, dy):
+    return f"the terrain has {dx} columns and {dy} rows, and a side is 1 to 4,096"
+
+
+X_CENTER = header("xllcorner", "XLLCENTER")
+Y_CENTER = header("yllcorner", "yllcenter")
+ANY_ORDER = "NODATA_value 7\nCELLSIZE 1\nYllCorner 0\nnCols 1\nxllcorner 0\nNROWS 2\n"
+HIGH = header("cellsize 10", "dx 10\nDY 20")
+ONE_LINE = (HEADER + ROWS).replace("\n", " ")
+
+
+def ring(*points):
+    return "[" + ",".join(f"[{x},{y}]" for x, y in points) + "]"
+
+
+def line(*points):
+    """One line as GeoJSON."""
+    return f'{{"type":"MultiLineString","coordinates":[{ring(*points)}]}}\n'
+
+
+def polygon(*rings):
+    """One polygon as GeoJSON."""
+    text = ",".join(ring(*points) for points in rings)
+    return f'{{"type":"MultiPolygon","coordinates":[[{text}]]}}\n'
+
+
+def feature(properties, geometry):
+    return f'{{"type":"Feature","properties":{{{properties}}},"geometry":{geometry.strip()}}}'
+
+
+def collection(*features):
+    return '{"type":"FeatureCollection","features":[\n' + ",\n".join(features) + "\n]}\n"
+
+
+ON_MAP = [(110, 225), (105, 230), (100, 225), (105, 220), (110, 225)]
+UPPER_LEFT = [(1, 0.5), (0.5, 0), (0, 0.5), (0.5, 1), (1, 0.5)]
+SECOND = [(2, 0.5), (1.5, 0), (1, 0.5), (1.5, 1), (2, 0.5)]
+# The plate at cells of 2 by 2, y up: the outer ring counterclockwise, the hole clockwise.
+PLATE_OUT = [
+    (6, 1), (6, 3), (6, 5), (5, 6), (3, 6), (1, 6), (0, 5), (0, 3), (0, 1), (1, 0), (3, 0), (5, 0), (6, 1),
+]
+PLATE_HOLE = [(3, 2), (2, 3), (3, 4), (4, 3), (3, 2)]
+
+
+# Grids that GDAL reads too, each drawn at 1.
+GRIDS = [
+    HEADER + ROWS,
+    X_CENTER.replace("yllcorner", "yllcenter") + ROWS,
+    HIGH + ROWS,
+    HIGH + "1 0 0\n0\n0 0.5\n",
+    HEADER + "1\t0 0  0 1\t 0.25 \n",
+    (HEADER + "1 0 0 0 1 2\n").replace("\n", "\r\n"),
+    "ncols 4 nrows 2 dx 0.5 dy 0.25 xllcorner -3 yllcorner 7.5 NODATA_value 9\n1 9 1 9\n9 1 9 2.5\n",
+    "NCOLS 2\nNROWS 2\nCELLSIZE 3\nnodata_value -1\n1 2\n-1 3.5\n",
+]
+
+# What stands for no data, and samples of which GDAL says how many are numbers.
+NO_DATA = [
+    ("-9999", ["-9999", "-9999.0", "-9999.0001", "-9998.999", "-9999.5", "0.5"]),
+    ("3.4028235e+38", [BIG, "3.4028235e+38", "3.40282346638529e+38", "3.4028e+38", "1.5"]),
+    (BIG, [BIG, "3.4028235e+38", "3.40282346638529e+38", "1.5"]),
+    ("-3.4028235e+38", ["-" + BIG, "-3.4028235e+38", BIG, "1.5"]),
+    ("0", ["0", "0.0", "-0.0", "1e-30", "1.5"]),
+    ("1.1", ["1.1", "1.10000002384185791", "1.1001", "1.5"]),
+]
+
+
+def turned(points):
+    """The plate's ring upside down, so that it is read backwards to run as before."""
+    return [(x, 6 - y) for x, y in reversed(points)]
+
+
+# What is read from standard input, the words behind the file '-', and what is printed.
+DRAWN = [
+    ("5\n", "5", ONE),
+    ("5", "-1.5", ONE),
+    ("5", "-- -1", ONE),
+    ("5", "0 9", ONE),
+    ("5", "9", NONE),
+    ("5", "inf", NONE),
+    ("5", "-inf inf", ONE),
+    ("5", "5 6", ONE),
+    ("5", "4 5", NONE),
+    ("1 1 1\n1 0 1\n1 1 1", "1 --counts", "polygons 1\nholes 1\ndropped 0\nvertices 18\n"),
+    ("1 1 1\n1 0 1\n1 1 1", "--counts 1 --lines", "lines 2\nvertices 18\n"),
+    ("2 2 2\n2 1 2\n2 2 0", "1 2 --counts", DIAMOND),
+    ("2 2 2\n2 1 2\n2 2 0", "1 2 --counts --isobands", "polygons 0\nholes 0\ndropped 2\nvertices 0\n"),
+    (JUMPS, "5 6", polygon([(2, 3.5), (1.5, 3), (1, 3.5), (1.5, 4), (2, 3.5)])),
+    # White space, commas, comments and line ends.
+    ("\n1\t2 \v 3\r\n\r\n4\f5 6\r\n", "2 --counts", "polygons 1\nholes 0\ndropped 0\nvertices 11\n"),
+    ("1,2 , 3\n4 5 6", "2 --counts", "polygons 1\nholes 0\ndropped 0\nvertices 11\n"),
+    ("5 0\r5 0\r", "5 --counts", "polygons 1\nholes 0\ndropped 0\nvertices 7\n"),
+    ("\ufeff5", "5", ONE),
+    ("# made by hand\n  # twice\n\n5\n", "5", ONE),
+    ("nan inf -INF\n", "0 --counts", DIAMOND),
+    # Lines.
+    ("nan inf 3\n", "4 --lines --smooth", line(*SECOND)),
+    ("0 4", "1 --lines", line(*SECOND)),
+    ("0 4", "1 --lines --smooth", line((2, 0.5), (1.5, 0), (0.75, 0.5), (1.5, 1), (2, 0.5))),
+    ("0 4", "1 --lines --smooth --step 4,2", line((8, 1), (6, 0), (3, 1), (6, 2), (8, 1))),
+    ("5", "5 --lines --origin=-1,2 --step 2,-3", line((1, 0.5), (0, 2), (-1, 0.5), (0, -1), (1, 0.5))),
+    ("5", "5 6 --lines", line(*UPPER_LEFT)),
+    ("5", "6 --lines", '{"type":"MultiLineString","coordinates":[]}\n'),
+    # On the map, and in grid units.
+    (HEADER + ROWS, "1 --grid", ONE),
+    (HEADER + ROWS, "1", polygon(ON_MAP)),
+    (HEADER + ROWS, "1 --lines", line(*ON_MAP)),
+    (HEADER + ROWS, "1 --lines --grid", line(*UPPER_LEFT)),
+    (HEADER + ROWS, "1 --lines --step 2,2", line((102, 231), (101, 230), (100, 231), (101, 232), (102, 231))),
+    (HEADER + ROWS, "1 --step 2,2", polygon([(102, 231), (101, 232), (100, 231), (101, 230), (102, 231)])),
+    (HEADER + ROWS, "1 --origin 0,0", polygon([(10, -5), (5, 0), (0, -5), (5, -10), (10, -5)])),
+    ("1", "1 --step 2,2", polygon([(2, 1), (1, 2), (0, 1), (1, 0), (2, 1)])),
+    (X_CENTER + ROWS, "1", polygon([(105, 225), (100, 230), (95, 225), (100, 220), (105, 225)])),
+    (Y_CENTER + ROWS, "1", polygon([(110, 220), (105, 225), (100, 220), (105, 215), (110, 220)])),
+    (HIGH + ROWS, "1", polygon([(110, 250), (105, 260), (100, 250), (105, 240), (110, 250)])),
+    ("ncols 1 nrows 1 cellsize 2 5", "5", polygon([(2, -1), (1, 0), (0, -1), (1, -2), (2, -1)])),
+    # Grids however they are written.
+    (ONE_LINE, "1", polygon(ON_MAP)),
+    (HEADER + "1 0 0\n0\n0 0\n", "1", polygon(ON_MAP)),
+    (HEADER + "1\n0\n0\n0\n0\n0", "1", polygon(ON_MAP)),
+    (HEADER + "1,0\n0,0,0,0\n", "1", polygon(ON_MAP)),
+    ("# a grid\n" + HEADER.replace("\n", " # as it is\n") + ROWS, "1", polygon(ON_MAP)),
+    ((HEADER + ROWS).replace("\n", "\r"), "1", polygon(ON_MAP)),
+    # What stands for no data.
+    (ANY_ORDER + "7.0\n8\n", "5 --counts", DIAMOND),
+    (ANY_ORDER + "7.0000001\n8\n", "5 --counts", DIAMOND),
+    (ANY_ORDER + "7.00001\n8\n", "5 --counts", "polygons 1\nholes 0\ndropped 0\nvertices 7\n"),
+    (ANY_ORDER.replace("7", "3.4028235e+38") + f"{BIG}\n8\n", "5 --counts", DIAMOND),
+    (ANY_ORDER.replace("7", BIG) + "3.4028235e+38\n8\n", "5 --counts", DIAMOND),
+    (ANY_ORDER.replace("7", "1e300") + "2e300\n1e300\n", "5 --counts", DIAMOND),
+    (ANY_ORDER.replace("7", "nan") + "nan\n8\n", "5 --counts", DIAMOND),
+    # Several at once.
+    ("1 2", "2 9 --levels", collection(
+        feature('"value":2,"area":0.5,"polygons":1', polygon(SECOND)), feature('"value":9,"area":0,"polygons":0', NONE))),
+    ("1 2", "0 2 inf --bands", collection(
+        feature('"low":0,"high":2,"area":0.5,"polygons":1', polygon(UPPER_LEFT)),
+        feature('"low":2,"high":null,"area":0.5,"polygons":1', polygon(SECOND)))),
+    ("1 2", "--interval 1", collection(feature('"value":2,"area":0.5,"polygons":1', polygon(SECOND)))),
+    ("1 2", "--interval 1 --lines", collection(feature('"value":2,"lines":1', line(*SECOND)))),
+    ("0.1 0.3", "--interval 0.1 --counts", f"value 0.2\n{DIAMOND}value 0.3\n{DIAMOND}"),
+    ("0.1 0.3", "--interval 0.2 --bands --counts", f"low 0\nhigh 0.2\n{DIAMOND}low 0.2\nhigh 0.4\n{DIAMOND}"),
+    ("nan inf", "--interval 1", '{"type":"FeatureCollection","features":[\n]}\n'),
+    (PLATE, "1 --levels", collection(
+        feature('"value":1,"area":32,"polygons":1', polygon(PLATE_OUT, PLATE_HOLE)))),
+    (PLATE, "1 --origin 0,0 --step 2,2", polygon(turned(PLATE_OUT), turned(PLATE_HOLE))),
+]
+
+# What is read from standard input, the words behind the file, and what the message says. The exit status is 1.
+FAILING = [
+    ("", "1", "line 1, column 1: the file has no numbers"),
+    (" \n\n", "1", "line 3, column 1: the file has no numbers"),
+    ("hello\n", "1", "line 1, column 1: 'hello' is neither a number nor a header word of an ESRI ASCII grid"),
+    ('{"type":1}\n', "1", "line 1, column 1: '{\"type\":1}' is neither"),
+    ("1 2\n3\n", "1", "line 2, column 2: the row ends after 1 of 2 numbers"),
+    ("1 2\n3 4 5\n", "1", "line 2, column 5: the row has more numbers than 2"),
+    ("1 2\n3 x\n", "1", "line 2, column 3: 'x' is not a number"),
+    ("1 2\n3 \x1b[31m\n", "1", "line 2, column 3: '?[31m' is not a number"),
+    ("1 2\n# no comment\n", "1", "line 2, column 1: '#' is not a number"),
+    ("1;2\n", "1", "line 1, column 1: '1;2' is neither"),
+    ("1,,2\n", "1", "line 1, column 3: a number is missing"),
+    ("1,2 ,\n", "1", "line 1, column 6: a number is missing"),
+    (",1\n", "1", "line 1, column 1: a number is missing"),
+    ("1,2 3\n", "1", "line 1, column 5: commas and blanks both separate the numbers of this row"),
+    ("335,4 336,1\n", "1", "line 1, column 7: commas and blanks both separate the numbers of this row"),
+    (HEADER + "1 0\n0 0, 0 0\n", "1", "line 7, column 6: commas and blanks both"),
+    (b"1 2\n3 \x80\n", "1", "line 2, column 3: this is not text"),
+    (b"II*\0\x08\0\x80\0", "1", "line 1, column 7: this is not text; what GDAL reads is given by its name"),
+    (" ".join(["1"] * 4097), "1", sides(4097, 1)),
+    ("1\n" * 4097, "1", sides(1, 4097)),
+    (header("nrows 3", "nrows 4097") + ROWS, "1", sides(2, 4097)),
+    (header("nrows 3", "nrows 0"), "1", sides(2, 0)),
+    (header("ncols 2", "ncols 99999999999999999999") + ROWS, "1", "the terrain has 18446744073709551615 columns"),
+    (HEADER + "1 0\n0 0\n", "1", "line 8, column 1: the file ends after 4 of 6 numbers"),
+    (HEADER, "1", "line 6, column 1: the file ends after 0 of 6 numbers"),
+    (HEADER + ROWS + "\n1 2\n", "1", "line 10, column 1: there are more numbers than 2 columns by 3 rows"),
+    (HEADER + "1 0\n0 z\n0 0\n", "1", "line 7, column 3: 'z' is not a number"),
+    (HEADER + "rows 1\n" + ROWS, "1", "line 6, column 1: 'rows' is neither"),
+    (HEADER + "ncols 2\n" + ROWS, "1", "line 6, column 1: ncols is given a second time"),
+    (HEADER + "xllcenter 2\n" + ROWS, "1", "line 6, column 1: xllcenter is given a second time"),
+    (HEADER + "NODATA_value x\n" + ROWS, "1", "line 6, column 14: 'x' is not a number"),
+    (HEADER + "NODATA_value", "1", "line 6, column 13: NODATA_value has no value"),
+    (header("cellsize 10\n", "") + ROWS, "1", "line 5, column 1: the header before this line has no cellsize"),
+    (header("cellsize 10", "dx 10") + ROWS, "1", "line 6, column 1: the header before this line has no dy"),
+    (header("cellsize 10", "cellsize 10,5") + ROWS, "1", "line 5, column 10: '10,5' is not a number"),
+    (header("xllcorner 100\n", "") + ROWS, "1", "line 5, column 1: the header before this line has no xllcorner"),
+    (header("nrows 3", "nrows 2.5") + ROWS, "1", "line 2, column 7: '2.5' is not a whole number"),
+    (header("nrows 3", "nrows -3") + ROWS, "1", "line 2, column 7: '-3' is not a whole number"),
+    (header("cellsize 10", "cellsize 0") + ROWS, "1", "line 5, column 10: '0' is not above 0"),
+    (header("yllcorner 200", "yllcorner inf") + ROWS, "1", "line 4, column 11: 'inf' is not a finite number"),
+    ("5", "5 --step 1e308,1 --origin 1.7e308,0", "a coordinate is too large for its origin and step"),
+    ("5", "5 --lines --step 1e308,1 --origin 1.7e308,0", "a coordinate is too large for its origin and step"),
+    ("0 1000", "--interval 0.01", "an interval of 0.01 gives more than 10000 levels from 0 to 1000"),
+    ("5", "5 --svg --width 100", "the picture is too small for a map beside its axes and its legend"),
+]
+
+# All words, and what the message says. The exit status is 2.
+MISUSED = [
+    ("", "FILE and THRESHOLD are missing"),
+    ("-", "THRESHOLD is missing"),
+    ("- five", "THRESHOLD is not a number: 'five'"),
+    ("- nan", "THRESHOLD is not a number: 'nan'"),
+    ("- 1 x", "HIGH is not a number: 'x'"),
+    ("- x 1", "LOW is not a number: 'x'"),
+    ("- nan 1", "LOW is not a number: 'nan'"),
+    ("- 2 1", "LOW is not below HIGH: 2 and 1"),
+    ("- 5 5", "LOW is not below HIGH: 5 and 5"),
+    ("- 1 2 3", "there are 3 thresholds: --levels draws each of them, --bands what lies between them"),
+    ("- 1 3 2 --levels", "thresholds ascend, and 2 follows 3"),
+    ("- 1 1 --bands", "thresholds ascend, and 1 follows 1"),
+    ("- 1 --bands", "--bands wants two thresholds or more"),
+    ("- --levels", "THRESHOLD is missing"),
+    ("- 1 2 --levels --bands", "--levels and --bands exclude each other"),
+    ("- 1 --interval 2", "--interval takes the place of thresholds"),
+    ("- --interval 0", "--interval wants a number above 0, not '0'"),
+    ("- --interval inf", "--interval wants a number, not 'inf'"),
+    ("- --interval", "--interval wants N"),
+    ("- 1 --isobands", "--isobands goes with LOW and HIGH, or --bands"),
+    ("- 1 2 --isobands --lines", "--isobands and --lines exclude each other"),
+    ("- 1 --colour", "there is no option --colour"),
+    ("- 1 -s", "there is no option -s"),
+    ("- 1 --svg=yes", "--svg takes no value"),
+    ("- 1 --svg --counts", "--svg and --counts exclude each other"),
+    ("- 1 --svg --png", "--svg and --png exclude each other"),
+    ("- 1 --smooth", "--smooth goes with --lines"),
+    ("- 1 --width 300", "--width goes with --svg or --png"),
+    ("- 1 --svg --height 9", "--height wants 100 to 20,000 pixels, not 9"),
+    ("- 1 --grid --origin 1,2", "--grid and --origin exclude each other"),
+    ("- 1 --origin", "--origin wants X,Y"),
+    ("- 1 --origin 1", "--origin wants two numbers X,Y, not '1'"),
+    ("- 1 --step=1,b", "--step wants two numbers X,Y, not '1,b'"),
+    ("- 1 --step inf,1", "--step wants finite numbers, not 'inf,1'"),
+    ("- 1 --step 1,0", "a step of 0 leaves nothing to draw"),
+]
