@@ -98,7 +98,7 @@ module _ (values : List Float) (threshold : Float) (dx dy : ℕ) (small : Small 
     pub all-rings : answer ≡ built-is.Rings (ringCount A dx dy)
     unfolding openWords linkWords pointCount pointWords directoryWords recordStride programSide
     all-rings =
-        contours-exactly values threshold dx dy lines links points directory k .given-exactly .0 (
+        contours-exactly values threshold dx dy lines links points directory k .1 .given-exactly .0 (
           (fits, omega (arith, room .lines-room, peak-within, small .columns), omega (arith, room .links-room, segments-within)),
           omega (arith, room .points-room, segments-within, rings-within),
           omega (arith, room .directory-room, rings-within),

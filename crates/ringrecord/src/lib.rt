@@ -33,7 +33,7 @@ pub struct RingRecord {
 }
 
 // The class word of a fate.
-fn class_word(fate: Fate) -> u32
+pub fn class_word(fate: Fate) -> u32
     ensures { λ r. ⌜ r ≡ classWord (fateOf fate) ⌝ }
 {
     match fate {
@@ -45,7 +45,7 @@ fn class_word(fate: Fate) -> u32
 }
 
 // The owner word of a fate, in the record of number `k`.
-fn owner_word(k: u32, fate: Fate) -> u32
+pub fn owner_word(k: u32, fate: Fate) -> u32
     ensures { λ r. ⌜ r ≡ ownerWord k (fateOf fate) ⌝ }
 {
     match fate {
