@@ -30,7 +30,6 @@ use types.Run.{look, init, stop, fld, load, of-opd, and-then, no-more, land, ass
 use denote.RattleType.{RattleType}
 use denote.Builtin.{u32}
 use denote.Laws.{Is}
-use denote.Memory.{pointee}
 use denote.Plain.{UInt, uint-vals}
 use denote.Ref.{RefT, at-last}
 use denote.Slice.{MutSlice, sliceTy, slice-vals, finally}
@@ -55,7 +54,7 @@ use Rattle.walks.proofs.Again.{LentAgain, under-name, lends, gets-back, lends-s
 use Rattle.walks.proofs.Turns.{calls-to}
 use Rattle.records.specs.Over.{ringsIn, OverWords, OverRecords}
 use Rattle.records.proofs.Lending.{over-records}
-use Rattle.records.proofs.Passing.{tokens, chain, nothings, unties, ties, unlinks, relinks, pads, Cells, locals, holds, spot, found, look-count, relends}
+use Rattle.records.proofs.Passing.{to, tokens, chain, nothings, unties, ties, unlinks, relinks, pads, Cells, locals, holds, spot, found, look-count, relends}
 use Rattle.records.proofs.rings_in as rings-in
 use Rattle.records.proofs.rings_in.Symbol.{name as #rings-in}
 
@@ -70,9 +69,6 @@ abbrev pub built-kind : Kind B.the-row
 built-kind = of-enum B.the-type B′.the-laws tt B′.the-copy B′.the-plain
 
 -- ---- the locals from `lines` on. T is the type of the points, and j the number of the lifetime of `lines`
-abbrev to : Lifetime → Mutability → RattleType → Ty
-to ℓ μ T = tyRef ℓ μ (pointee (T .written))
-
 abbrev lone : List Ty → Ty
 lone [] = tyInt w64
 lone (τ ∷ τs) = τ

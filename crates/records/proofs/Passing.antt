@@ -2,7 +2,7 @@
 --     spent, spent-slice       plain data, and a `&[T]`, that are passed on for good: nothing is had of them at exit
 --     tokens, chain            lifetimes' tokens, and formulas, in front of others.        unties, ties, unlinks, relinks      they are taken apart from what is behind them, and put in front of it
 --     nothings, pads           a true formula for each of them; those are put in front
---     locals                   locals of an environment, from their types and blocks.        holds       what they hold, as `ringrecord`'s `held` has it.        spot, found     local i + k, where the environment is F from local i on
+--     to                       the type of a reference.        locals      locals of an environment, from their types and blocks.        holds       what they hold, as `ringrecord`'s `held` has it.        spot, found     local i + k, where the environment is F from local i on
 --     look-count               the count of a slice in a local.        relends     a `&mut` slice is lent on, as a `&mut` or as a `&`: its pointer, and the slice that is passed, are made
 -- Assumes `Given`.
 use mathlib.Core.Path.{_≡_, refl, sym, _∙_, ap, subst}
@@ -23,6 +23,7 @@ use types.Run.{Reads, Walks, Finds, look, init, stop, hop, fld, from, load, and-
 use types.Part.{Part, whole, sub, look-in, agg}
 use denote.Exit.{Kept}
 use denote.RattleType.{RattleType}
+use denote.Memory.{pointee}
 use denote.Ref.{RefT}
 use denote.Signature.{Slot, AllWithin, plain, shrSliceOf, meetAt, nameOf}
 use denote.Slice.{sliceTy, slice-vals, shr-slice-tells}
@@ -84,6 +85,10 @@ module _ {M : Type 1} {𝓤 : URA M} {H : Heap 𝓤} {A : Atoms 𝓤} {K : Type 
   pads k (P ∷ Ps) = step (λ s. pads k Ps $ nothing k $ fjoin k $ s)
 
 -- ---- locals of an environment of which only a part is known
+-- the type of a reference to T
+abbrev pub to : Lifetime → Mutability → RattleType → Ty
+to ℓ μ T = tyRef ℓ μ (pointee (T .written))
+
 abbrev pub Cells : List Ty → Type 0
 Cells [] = Unit {0}
 Cells (τ ∷ τs) = ℕ × Cells τs
