@@ -4,12 +4,12 @@
 use mathlib.Core.Path.{_≡_, refl, sym, _∙_, ap}
 use mathlib.Core.Logic.{_↔_, Iff·trans}
 use mathlib.Core.Bool.{Bool, true, false, and-false}
-use mathlib.Core.List.{List, [], _++_}
+use mathlib.Core.List.{List, _++_}
 use Prim.Native.Nat.{ℕ, _*_, _≤_, _<_, min}
 use native.Mathlib.Omega.{arith}
 use lib.Dec.{ltb}
 use lib.Ieee.{Float}
-use lib.ListN.{length, take, drop, replicate, take-append-drop}
+use lib.ListN.{length, take, drop, take-append-drop}
 use lib.Seq.{length-take-le, take-all, drop-at}
 use borrow.Author.Tests.{lt-ltb, ltb-true, ltb-false}
 use Rattle.error.specs.declared.Refusal.{Refusal}
@@ -37,7 +37,7 @@ use Rattle.ringrecord.specs.Records.{directoryFrom, directoryOf, recordsFrom}
 use Rattle.ringrecord.specs.Copies.{roomFor, copiedRings, wordsFrom}
 use Rattle.ringrecord.proofs.Laws.{as-many-records}
 use Rattle.ringrecord.proofs.Copied.{all-rings}
-use Rattle.records.specs.Over.{ringsIn, lentWords, OverWords, OverRecords}
+use Rattle.records.specs.Over.{ringsIn, lentWords, OverRecords}
 use Rattle.records.proofs.Lending.{lent-below}
 
 -- ---- 1. records past the rings

@@ -1,5 +1,5 @@
 -- `records::isoband_records` meets its contract: a walk of its MIR, by hand, as `Entries.antt` has it. Its own are the parameters in front of `lines`, and the call of `bands_over`. Assumes nothing.
-use mathlib.Core.Path.{_≡_, refl}
+use mathlib.Core.Path.{refl}
 use Prim.Native.Nat.{ℕ}
 use mathlib.Core.List.{[], _∷_, List}
 use lib.ListN.{length}

@@ -18,8 +18,7 @@ use contract.Monad.{Fun, factI}
 use contract.Running.{givenOf, tables, tablesOf}
 use sound.WpLaws.{fmOf}
 use types.Kit.{Given, ‵, _⊛_, _$_, _∵_, !, qed, move, drop, split, join, fsplit, fjoin, feqL, suffices, frame, done}
-use types.Run.{look, init, stop, hop, fld, from, load, and-then, no-more, addr, assigns, land, returns, params1, pass1, pass0}
-use types.Part.{whole, sub, look-in, agg}
+use types.Run.{look, init, stop, from, and-then, no-more, land, returns, params1, pass1, pass0}
 use denote.RattleType.{owns}
 use denote.Builtin.{u8, u16, u32}
 use denote.Plain.{uint-vals, bool-vals}
@@ -40,8 +39,8 @@ use Rattle.ringrecord.proofs.words_from_records.Symbol.{name as #copying}
 use Rattle.ringrecord.proofs.words_from_records.Met as copying-thm
 use Rattle.walks.proofs.Locals.{enters, leaves, var, at}
 use Rattle.walks.proofs.Params.{Params, value, lent, lent-mut, gave-mut, kept, passed, words, Known, Out, shown}
-use Rattle.walks.proofs.Rows.{had, doubles, of-uint, of-bool}
-use Rattle.walks.proofs.Again.{under-name, lends-shared, shared-back}
+use Rattle.walks.proofs.Rows.{had, of-uint}
+use Rattle.walks.proofs.Again.{under-name}
 use Rattle.walks.proofs.Turns.{calls-to}
 use Rattle.records.specs.Over.{readWords}
 use Rattle.records.proofs.Lending.{read-words, read-words-fit}
