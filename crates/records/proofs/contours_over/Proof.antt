@@ -6,30 +6,6 @@ use Rattle.records.proofs.Lending.{lent-below, over-words, rings-fit}
 use Rattle.records.proofs.contours_over.Statement.{statement}
 use Rattle.records.proofs.contours_over.Tie as tie
 
-lent-words-requires : tie.Need-lent-words-requires
-lent-words-requires c κs = search needs
-
-slice-relend-prefix-contours : tie.Need-slice-relend-prefix-contours
-slice-relend-prefix-contours c = rw (c .before .before .before .lent-words .ensures) (lent-below _ _)
-
-slice-aggregate-contours : tie.Need-slice-aggregate-contours
-slice-aggregate-contours c = sym (length-take-le _ _ (rw (c .before .before .before .before .lent-words .ensures) (lent-below _ _)))
-
-contours-requires : tie.Need-contours-requires
-contours-requires c κs = search needs
-
-same-length : tie.Need-same-length
-same-length c = search needs
-
-same-length-2 : tie.Need-same-length-2
-same-length-2 c = search needs
-
-same-length-3 : tie.Need-same-length-3
-same-length-3 c = search needs
-
-same-length-4 : tie.Need-same-length-4
-same-length-4 c = search needs
-
 returns : tie.Need-returns
 returns c =
     let called = c .before .before .before .before .before .before .before .before .contours in
@@ -39,12 +15,12 @@ pub contours-over-spec : {M : Type 1} → statement M
 contours-over-spec =
     tie.close
     (tie.spec
-    lent-words-requires
-    slice-relend-prefix-contours
-    slice-aggregate-contours
-    contours-requires
-    same-length
-    same-length-2
-    same-length-3
-    same-length-4
+    (λ c κs. search needs)
+    (λ c. rw (c .before .before .before .lent-words .ensures) (lent-below _ _))
+    (λ c. sym (length-take-le _ _ (rw (c .before .before .before .before .lent-words .ensures) (lent-below _ _))))
+    (λ c κs. search needs)
+    (λ c. search needs)
+    (λ c. search needs)
+    (λ c. search needs)
+    (λ c. search needs)
     returns)
