@@ -33,6 +33,13 @@ pub lent-by-records : (words records : ℕ) → lentWords words records ≤ dire
 unfolding lentWords
 lent-by-records words records = omega arith
 
+-- the words lent are there, and as many as are taken
+pub lent-fits : {lent : ℕ} (words room : ℕ) → lent ≡ lentWords words room → lent ≤ words
+lent-fits words room is = rw is (lent-below words room)
+
+pub lent-length : {lent : ℕ} (words : List ℕ) (room : ℕ) → lent ≡ lentWords (length words) room → lent ≡ length (take lent words)
+lent-length {lent} words room is = sym (length-take-le lent words (lent-fits (length words) room is))
+
 -- a build over the first words, whose part is put back in front of the others
 pub over-words : (Words : List ℕ → List ℕ → Type 0) {n lent room : ℕ} (words part : List ℕ) → lent ≡ lentWords (length words) room → length part ≡ length (take lent words)
     → Words (take lent words) part → directoryWords n ≤ length (take lent words) → OverWords Words n room words (part ++ drop lent words)
@@ -44,7 +51,7 @@ over-words Words {n} {lent} {room} words part is long built fit = record {
 }
   where
     lent-is : length (take lent words) ≡ lent
-    lent-is = length-take-le lent words (rw is (lent-below (length words) room))
+    lent-is = sym (lent-length words room is)
 
     part-long : length part ≡ lent
     part-long = long ∙ lent-is

@@ -1,8 +1,6 @@
 -- `records::contours_over` meets its contract: `contours` is lent a front of the directory, and the rest stays. Assumes nothing.
-use mathlib.Core.Path.{sym}
-use lib.Seq.{length-take-le}
 use borrow.Author.Needs.{needs}
-use Rattle.records.proofs.Lending.{lent-below, over-words, rings-fit}
+use Rattle.records.proofs.Lending.{lent-fits, lent-length, over-words, rings-fit}
 use Rattle.records.proofs.contours_over.Statement.{statement}
 use Rattle.records.proofs.contours_over.Tie as tie
 
@@ -13,14 +11,5 @@ returns c =
 
 pub contours-over-spec : {M : Type 1} → statement M
 contours-over-spec =
-    tie.close
-    (tie.spec
-    (λ c κs. search needs)
-    (λ c. rw (c .before .before .before .lent-words .ensures) (lent-below _ _))
-    (λ c. sym (length-take-le _ _ (rw (c .before .before .before .before .lent-words .ensures) (lent-below _ _))))
-    (λ c κs. search needs)
-    (λ c. search needs)
-    (λ c. search needs)
-    (λ c. search needs)
-    (λ c. search needs)
-    returns)
+    tie.close (tie.spec (λ c κs. search needs) (λ c. lent-fits _ _ (c .before .before .before .lent-words .ensures)) (λ c. lent-length _ _ (c .before .before .before .before .lent-words .ensures))
+    (λ c κs. search needs) (λ c. search needs) (λ c. search needs) (λ c. search needs) (λ c. search needs) returns)
