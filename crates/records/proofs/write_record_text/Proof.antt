@@ -1,5 +1,5 @@
--- `records::write_record_text` meets its contract: a walk of its MIR, by hand. `Readers.antt` has the call that copies the words of the records into the directory; then
--- the directory is lent as a `&` for the call of `text_over`, and comes back. Assumes nothing.
+-- `records::write_record_text` meets its contract: a walk of its MIR, by hand. `Readers.antt` has how the directory is lent for both calls, and comes back: for the copy of the
+-- records' words, and as a `&` for `text_over`, to which the text is given beside it. Assumes nothing.
 use mathlib.Core.Path.{_≡_, refl, ap, _∙_}
 use Prim.Native.Nat.{ℕ, _≤_}
 use mathlib.Core.List.{[], _∷_, List}
