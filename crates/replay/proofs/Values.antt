@@ -1,17 +1,19 @@
 -- What the walks of this crate hold in locals and hand back, and its parameters that are passed on. Assumes `Given`.
-use mathlib.Core.Path.{_≡_, refl, _∙_}
+use mathlib.Core.Path.{_≡_, refl, _∙_, ap}
+use mathlib.Core.Bool.{Bool}
 use Prim.Native.Nat.{ℕ}
 use mathlib.Core.List.{List, [], _∷_, map}
 use lib.Dec.{lit<}
 use lib.ListN.{replicate, length-map}
 use mir.Val.{Val, vstruct, ofList}
-use denote.Exit.{Kept}
+use denote.Exit.{Kept, each-of}
 use denote.RattleType.{RattleType}
 use denote.Signature.{Slot, AllWithin, plain, shrSliceOf, meetAt, nameOf}
 use denote.Slice.{slice-vals, shr-slice-tells}
 use denote.Triple.Walked.{stay-dropped, goes-dropped}
 use denote.Laws.{Is}
-use denote.Array.{Array, arrayVal, array-vals, each}
+use denote.Array.{Array, arrayVal, array-vals, array-tells, array-copy, array-makes, array-lawful, each}
+use denote.Plain.{Boolean, bool-vals}
 use denote.Shadow.{shadow}
 use denote.Steps.{only}
 use denote.Enum.Laws as EL
@@ -22,6 +24,9 @@ use Rattle.cells.proofs.Level as LT
 use Rattle.cells.proofs.Level.Laws as LT′
 use Rattle.smoothing.proofs.Placement as PT
 use Rattle.smoothing.proofs.Placement.Laws as PT′
+use Rattle.geojson.specs.declared.TextAnswer.{TextAnswer}
+use Rattle.geojson.proofs.TextAnswer as A₀
+use Rattle.geojson.proofs.TextAnswer.Laws as A₀′
 use Rattle.isoringbuilder.specs.declared.Built.{Built}
 use Rattle.isoringbuilder.proofs.Built as BT
 use Rattle.isoringbuilder.proofs.Built.Laws as BT′
@@ -33,8 +38,20 @@ use Rattle.ringrecord.proofs.RingRecord.Laws as RT′
 use Rattle.ringrecord.proofs.Fate as FT
 use Rattle.ringrecord.proofs.Fate.Laws as FT′
 use Rattle.replay.proofs.Fronts.{repeated}
+use Rattle.replay.proofs.readers.Answers as AT
+use Rattle.replay.proofs.readers.Answers.Laws as AT′
 use Rattle.replay.proofs.tried.Tried as TT
 use Rattle.replay.proofs.tried.Tried.Laws as TT′
+
+abbrev pub of-array : {R : RattleType} → Kind R → (n : ℕ) → Kind (Array R n)
+of-array {R} k n = record {
+  vals = array-vals (k .vals);
+  tells = array-tells R (k .vals) (k .tells) n;
+  copy = λ 𝓤 H A W. array-copy 𝓤 H A W R (k .copy 𝓤 H A W) n;
+  makes = λ 𝓤 H A W. array-makes 𝓤 H A W R (k .makes 𝓤 H A W) n;
+  lawful = λ 𝓤 H A W. array-lawful 𝓤 H A W R (k .lawful 𝓤 H A W) n;
+  still = λ e. ap each-of (k .still e);
+}
 
 abbrev pub level-kind : Kind LT.the-row
 level-kind = of-struct LT.the-type LT′.the-laws LT′.the-copy LT′.the-plain
@@ -50,6 +67,12 @@ fate-kind = of-enum FT.the-type FT′.the-laws tt FT′.the-copy FT′.the-plain
 
 abbrev pub tried-kind : Kind TT.the-row
 tried-kind = of-struct TT.the-type TT′.the-laws TT′.the-copy TT′.the-plain
+
+abbrev pub answer-kind : Kind A₀.the-row
+answer-kind = of-enum A₀.the-type A₀′.the-laws tt A₀′.the-copy A₀′.the-plain
+
+abbrev pub answers-kind : Kind AT.the-row
+answers-kind = of-struct AT.the-type AT′.the-laws AT′.the-copy AT′.the-plain
 
 -- the record that every place holds before a build
 abbrev pub soil : RingRecord
@@ -80,6 +103,11 @@ as-tuples (x ∷ xs) (u ∷ us) s = (s .0, as-tuples xs us (s .1))
 
 pub tried-is : (answer : Built) (records : List RingRecord) → Is BT.the-row answer (built-kind .vals answer) → Is (Array R 128) records (array-vals (kind .vals) records) → Is TT.the-row (record { answer = answer; records = records }) (tried-val answer records ∷ [])
 tried-is answer records is are = ((built-kind .vals answer, (array-vals (kind .vals) records, tt)), (refl, (is, ((are .0, ((are .1 .0 .0, length-map records (RT.the-field .into) ∙ are .1 .0 .1), as-tuples records (are .0) (are .1 .1))), tt))))
+
+-- what the readers answered
+pub answers-are : (faulty : Bool) (length written : TextAnswer) → Is Boolean faulty (bool-vals faulty) → Is A₀.the-row length (answer-kind .vals length) → Is A₀.the-row written (answer-kind .vals written)
+    → Is AT.the-row (record { faulty = faulty; length = length; written = written }) (answers-kind .vals (record { faulty = faulty; length = length; written = written }))
+answers-are faulty length written is-faulty is-length is-written = LL.owes AT.the-type AT′.the-laws (record { faulty = faulty; length = length; written = written }) (is-faulty, (is-length, (is-written, tt)))
 
 module _ {n : ℕ} where
   -- plain data that is passed on for good

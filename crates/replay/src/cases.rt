@@ -75,7 +75,7 @@ pub fn exact_room(dx: u32, counts: Counts) -> Room {
     }
 }
 
-fn one_less_if(is_short: bool, n: usize) -> usize {
+pub fn one_less_if(is_short: bool, n: usize) -> usize {
     if is_short && 0 < n { n - 1 } else { n }
 }
 

@@ -1,26 +1,28 @@
 // Replays what the crate answered. Standard input, the file stdin, is what `compare/run --answers` writes: the texts of rings, of contours and bands, and of lines,
 // each with how many grids it has and then a line for each grid. Every number is held to what the library answers in exact room, with each table one word short,
-// and in generous room, and so are the builds by records. Then the longest sides that pass, the nearest that do not, and lists without a pair are run.
+// and in generous room, and so are the builds and the readers by records. Then the longest sides that pass, the nearest that do not, and lists without a pair are run.
 // A program has no exit status of its own: what differs stands in what it writes, which is held to the file stdout.
 mod calls;
 mod cases;
 mod grids;
-mod limits;
 mod line_grids;
+mod readers;
 mod recorded;
 mod region_grids;
 mod ring_grids;
+mod side_limits;
 mod tables;
 mod text;
+mod texts;
 mod tried;
 
 use cases::Build;
-use limits::grid_refused;
-use limits::list_refused;
-use limits::longest_passes;
 use line_grids::lines_hold;
 use region_grids::regions_hold;
 use ring_grids::rings_hold;
+use side_limits::grid_refused;
+use side_limits::list_refused;
+use side_limits::longest_passes;
 use std::num::wrapping_add_u32;
 use tables::front;
 use tables::word;

@@ -1,5 +1,6 @@
 // The builds by records, held to the same answers as those by words: as many of the first records as there are rings stand for the directory's words, and the others
-// are as they were. Each is run with as many records as rings, with more, with one fewer, and with a word fewer in the directory.
+// are as they were. Each is run with as many records as rings, with more, with one fewer, and with a word fewer in the directory; and the set that a contour or a band
+// writes is read by records too.
 use crate::calls::VALUES;
 use crate::calls::case_holds;
 use crate::calls::has_floats;
@@ -22,8 +23,10 @@ use crate::tables::floats_front;
 use crate::tables::floats_lent;
 use crate::tables::floats_part;
 use crate::tables::lent;
+use crate::tables::points_front;
 use crate::tables::points_lent;
 use crate::tables::word;
+use crate::texts::set_holds;
 use crate::tried::ROOM;
 use crate::tried::Tried;
 use crate::tried::is_soiled;
@@ -176,9 +179,48 @@ fn tried_holds(
         )
 }
 
-// Whether the build by records answers as expected with as many records as rings, with more, with one fewer, and with a directory that is a word short. More rings
-// than there are records for are a difference.
+// Whether a build's rings have a text.
+fn has_text(build: Build) -> bool {
+    match build {
+        Build::Rings => false,
+        Build::Contour => true,
+        Build::Band => true,
+        Build::Lines => false,
+    }
+}
+
+// Whether the set of rings that the build by records writes is read by records as by words.
+fn readers_hold(case: Case, grid: &[f64], thresholds: &[f64]) -> bool {
+    let room = case.room;
+    let mut lines = [SOIL; WORDS];
+    let mut links = [SOIL; WORDS];
+    let mut points = [SOILED; WORDS];
+    let mut floats = [FLOAT_SOIL; 0];
+    let mut directory = [SOIL; WORDS];
+    let tried = run_tried(
+        case,
+        grid,
+        thresholds,
+        lent(&mut lines, room.open),
+        lent(&mut links, room.linked),
+        points_lent(&mut points, room.worded),
+        &mut floats,
+        lent(&mut directory, room.recorded),
+        ROOM,
+    );
+    let left = tried.records;
+    set_holds(
+        points_front(&points, room.worded),
+        lent(&mut directory, room.recorded),
+        left,
+        case.counts.rings,
+    )
+}
+
+// Whether the build by records answers as expected with as many records as rings, with more, with one fewer, and with a directory that is a word short; and whether
+// what it writes, where it has a text, is read as by words. More rings than there are records for are a difference.
 fn case_tried_holds(case: Case, records: &[u32], listed: &[u32], values: &[f64; VALUES]) -> bool {
+    let build = case.build;
     let rings = case.counts.rings as usize;
     if ROOM < rings {
         return false;
@@ -202,6 +244,7 @@ fn case_tried_holds(case: Case, records: &[u32], listed: &[u32], values: &[f64; 
             listed,
         )
         & (rings == 0 || tried_holds(case, room, rings - 1, 8, grid, thresholds, records, listed))
+        & (!has_text(build) || readers_hold(case, grid, thresholds))
 }
 
 // Whether a case holds by words and by records.

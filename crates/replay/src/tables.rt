@@ -104,6 +104,15 @@ pub fn front(table: &[u32], n: usize) -> &[u32] {
     }
 }
 
+// The first n words of the points.
+pub fn points_front(points: &[u16], n: usize) -> &[u16] {
+    if n <= points.len() {
+        &points[0..n]
+    } else {
+        points
+    }
+}
+
 // The first n floats.
 pub fn floats_front(values: &[f64], n: usize) -> &[f64] {
     if n <= values.len() {
