@@ -1,4 +1,4 @@
--- What the walks of this crate hold in locals and hand back, and its parameters that are passed on. Assumes `Given`.
+-- What the walks of this crate hold in locals and hand back. Assumes `Given`.
 use mathlib.Core.Path.{_≡_, refl, _∙_, ap}
 use mathlib.Core.Bool.{Bool}
 use Prim.Native.Nat.{ℕ}
@@ -6,11 +6,8 @@ use mathlib.Core.List.{List, [], _∷_, map}
 use lib.Dec.{lit<}
 use lib.ListN.{replicate, length-map}
 use mir.Val.{Val, vstruct, ofList}
-use denote.Exit.{Kept, each-of}
+use denote.Exit.{each-of}
 use denote.RattleType.{RattleType}
-use denote.Signature.{Slot, AllWithin, plain, shrSliceOf, meetAt, nameOf}
-use denote.Slice.{slice-vals, shr-slice-tells}
-use denote.Triple.Walked.{stay-dropped, goes-dropped}
 use denote.Laws.{Is}
 use denote.Array.{Array, arrayVal, array-vals, array-tells, array-copy, array-makes, array-lawful, each}
 use denote.Plain.{Boolean, bool-vals}
@@ -19,17 +16,10 @@ use denote.Steps.{only}
 use denote.Enum.Laws as EL
 use denote.Struct.Laws as LL
 use Rattle.walks.proofs.Rows.{Kind, of-struct, of-enum}
-use Rattle.walks.proofs.Params.{Param, silent}
-use Rattle.cells.proofs.Level as LT
-use Rattle.cells.proofs.Level.Laws as LT′
-use Rattle.smoothing.proofs.Placement as PT
-use Rattle.smoothing.proofs.Placement.Laws as PT′
 use Rattle.geojson.specs.declared.TextAnswer.{TextAnswer}
 use Rattle.geojson.proofs.TextAnswer as A₀
-use Rattle.geojson.proofs.TextAnswer.Laws as A₀′
 use Rattle.isoringbuilder.specs.declared.Built.{Built}
 use Rattle.isoringbuilder.proofs.Built as BT
-use Rattle.isoringbuilder.proofs.Built.Laws as BT′
 use Rattle.ringrecord.specs.declared.RingRecord.{RingRecord}
 use Rattle.ringrecord.specs.declared.Fate.{Fate}
 use Rattle.ringrecord.proofs.Records.{R, kind}
@@ -37,6 +27,8 @@ use Rattle.ringrecord.proofs.RingRecord as RT
 use Rattle.ringrecord.proofs.RingRecord.Laws as RT′
 use Rattle.ringrecord.proofs.Fate as FT
 use Rattle.ringrecord.proofs.Fate.Laws as FT′
+use Rattle.records.proofs.Entries.{built-kind}
+use Rattle.records.proofs.Readers.{answer-kind}
 use Rattle.replay.proofs.Fronts.{repeated}
 use Rattle.replay.proofs.readers.Answers as AT
 use Rattle.replay.proofs.readers.Answers.Laws as AT′
@@ -53,23 +45,11 @@ of-array {R} k n = record {
   still = λ e. ap each-of (k .still e);
 }
 
-abbrev pub level-kind : Kind LT.the-row
-level-kind = of-struct LT.the-type LT′.the-laws LT′.the-copy LT′.the-plain
-
-abbrev pub placement-kind : Kind PT.the-row
-placement-kind = of-struct PT.the-type PT′.the-laws PT′.the-copy PT′.the-plain
-
-abbrev pub built-kind : Kind BT.the-row
-built-kind = of-enum BT.the-type BT′.the-laws tt BT′.the-copy BT′.the-plain
-
 abbrev pub fate-kind : Kind FT.the-row
 fate-kind = of-enum FT.the-type FT′.the-laws tt FT′.the-copy FT′.the-plain
 
 abbrev pub tried-kind : Kind TT.the-row
 tried-kind = of-struct TT.the-type TT′.the-laws TT′.the-copy TT′.the-plain
-
-abbrev pub answer-kind : Kind A₀.the-row
-answer-kind = of-enum A₀.the-type A₀′.the-laws tt A₀′.the-copy A₀′.the-plain
 
 abbrev pub answers-kind : Kind AT.the-row
 answers-kind = of-struct AT.the-type AT′.the-laws AT′.the-copy AT′.the-plain
@@ -108,22 +88,3 @@ tried-is answer records is are = ((built-kind .vals answer, (array-vals (kind .v
 pub answers-are : (faulty : Bool) (length written : TextAnswer) → Is Boolean faulty (bool-vals faulty) → Is A₀.the-row length (answer-kind .vals length) → Is A₀.the-row written (answer-kind .vals written)
     → Is AT.the-row (record { faulty = faulty; length = length; written = written }) (answers-kind .vals (record { faulty = faulty; length = length; written = written }))
 answers-are faulty length written is-faulty is-length is-written = LL.owes AT.the-type AT′.the-laws (record { faulty = faulty; length = length; written = written }) (is-faulty, (is-length, (is-written, tt)))
-
-module _ {n : ℕ} where
-  -- plain data that is passed on for good
-  abbrev pub spent : {R : RattleType} (k : Kind R) {e : Kept} → Param {n = n} (plain (λ _. R)) e
-  spent {R} k {e} = record {
-    stay = stay-dropped (plain (λ _. R)) e;
-    goes = λ 𝓤 H A W. goes-dropped 𝓤 H A W n (plain (λ _. R)) e (λ κs. silent (R .exit e) (k .still e));
-    spelled = λ _. k .vals;
-    tells = λ _. k .tells;
-  }
-
-  -- a `&[T]` that is passed on for good
-  abbrev pub spent-slice : (j : ℕ) (ok : AllWithin n (j ∷ [])) (s : Slot n) {e : Kept} → Param (shrSliceOf (j ∷ []) ok s) e
-  spent-slice j ok s {e} = record {
-    stay = stay-dropped (shrSliceOf (j ∷ []) ok s) e;
-    goes = λ 𝓤 H A W. goes-dropped 𝓤 H A W n (shrSliceOf (j ∷ []) ok s) e (λ κs x f. refl);
-    spelled = λ _. slice-vals;
-    tells = λ κs. shr-slice-tells (nameOf (j ∷ [])) (meetAt n (j ∷ []) ok κs) (s .row κs);
-  }
