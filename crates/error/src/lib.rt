@@ -28,6 +28,10 @@ pub enum Refusal {
     BadRing,
     // the program's input text is faulty
     BadText,
+    // a row of values whose length is not the number of columns
+    BadRow,
+    // a row after the last, an end before it, or a second end
+    BadTurn,
 }
 
 // The refusal's number in document 01.
@@ -47,5 +51,7 @@ pub fn number(refusal: Refusal) -> u32
         Refusal::TextShort => 10,
         Refusal::BadRing => 11,
         Refusal::BadText => 12,
+        Refusal::BadRow => 13,
+        Refusal::BadTurn => 14,
     }
 }
