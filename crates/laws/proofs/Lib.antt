@@ -23,3 +23,8 @@ pub mod Bounds
 pub mod Tests
 pub mod Words
 pub mod Digits
+pub mod Sizes
+pub mod Drawn
+pub mod LineWords
+pub mod Stored
+pub mod Borders

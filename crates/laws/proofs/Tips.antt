@@ -139,3 +139,9 @@ module _ (A : Sheet) {dx dy : ℕ} (out : Outside A dx dy) (r c : ℕ) (hc : c �
   words-apart-after i j hi hj p q s t w =
       let same : p ≡ q = word-determines dx r c p q (tips-on-frontier i hi p s) (tips-on-frontier j hj q t) w in
       tips-apart-after i j hi hj q (subst (λ (x : Point). Tip x (getD (drawingAfter A dx r c .lines) i [])) same s) t
+
+-- a point on the frontier has one of its dx + 2 words
+pub frontier-word-low : (dx r c : ℕ) (p : Point) → OnFrontier dx r c p → edgeWord dx p < dx + 2
+frontier-word-low dx r c p (lower k hk hd e) = omega (arith, ap (edgeWord dx) e, column-word dx k r)
+frontier-word-low dx r c p (upper k hk hd h e) = omega (arith, ap (edgeWord dx) e, top-word dx k r)
+frontier-word-low dx r c p (between h e) = omega (arith, ap (edgeWord dx) e, left-word dx c r h)
