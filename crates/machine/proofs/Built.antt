@@ -23,10 +23,10 @@ use Rattle.machine.specs.Machine.{mark, Tables, runAfter, runOver, linkP
 use Rattle.machine.specs.Walk as walk
 use Rattle.machine.specs.Walk.{walkWords, walkPoints, walkRecords}
 use Rattle.machine.proofs.Chains.{uses}
-use Rattle.machine.proofs.Held.{HeldRings}
+use Rattle.machine.proofs.Held.{HeldRings, rings-counted}
 use Rattle.machine.proofs.Steps.{Kept, Carried}
-use Rattle.machine.proofs.Leaves.{all}
-use Rattle.machine.proofs.WholeRun.{run-holds, rings-counted}
+use Rattle.machine.proofs.Leaving.{all}
+use Rattle.machine.proofs.WholeRun.{run-holds}
 use Rattle.machine.proofs.Walking.{words-walked, records-walked, points-counted}
 
 -- ---- the sizes of the packed tables
@@ -142,7 +142,7 @@ module _ (A : Sheet) {dx dy : ℕ} (out : Outside A dx dy) where
         (words-walked f dx (after .links) (after .progress .head) (holds .loops) (ringsOf A dx dy) (after .progress .tail) held-rings links-below)
 
     pub points-found : 2 * dx < 2 ^ 16 → 2 * dy < 2 ^ 16 → walkPoints dx (after .links) (after .progress .head) (after .progress .head) (segmentCount A dx dy) ≡ packedPoints (ringsOf A dx dy)
-    unfolding walk.pointWords narrow
+    unfolding walk.indexWords walk.pointWords narrow
     points-found hx hy =
         words-found narrow
         ∙ rings-narrow dx dy hx hy (ringsOf A dx dy) (unfold ringsOf in rings-are-rings A out dy (suc dx) (omega arith) (omega arith))

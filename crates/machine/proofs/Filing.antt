@@ -1,8 +1,8 @@
 -- The frontier's words: each tip of an open line has its slot filed under the tip's word. What each rule's stores leave of that. Assumes nothing.
-use mathlib.Core.Path.{_≡_, refl, sym, _∙_, ap, ap₂, subst}
-use mathlib.Core.Bool.{Bool, true, false, cond, false≢true}
+use mathlib.Core.Path.{_≡_, sym, _∙_, ap, subst}
+use mathlib.Core.Bool.{Bool, true, false, cond}
 use mathlib.Core.List.{List, [], _∷_, _++_}
-use Prim.Native.Nat.{ℕ, zero, suc, _+_, _-_, _*_, _/_, _%_, _≤_, _<_}
+use Prim.Native.Nat.{ℕ, suc, _+_, _-_, _*_, _/_, _%_, _≤_, _<_}
 use native.Mathlib.Nat.{mod-lt}
 use native.Mathlib.Decide.{ℕ-discrete}
 use native.Mathlib.Omega.{arith}
@@ -16,7 +16,7 @@ use Rattle.laws.proofs.Ends.{same-eq, same-refl, end-of-appended}
 use Rattle.laws.proofs.Strokes.{begin, finish}
 use Rattle.laws.proofs.Tips.{Tip, tipBy, edgeWord}
 use Rattle.machine.specs.Machine.{columnWord, firstLink, lastLink, endPoint, linkCount, linkPoint, linkNext, withSlot, moved, released}
-use Rattle.machine.proofs.Views.{Slot, slotAt, length-withSlot, frontier-of-withSlot}
+use Rattle.machine.proofs.Views.{Slot, length-withSlot, frontier-of-withSlot}
 use Rattle.machine.proofs.Chains.{Linked}
 use Rattle.machine.proofs.Held.{spelled, HeldLine}
 use Rattle.machine.proofs.Removal.{dropAt, drop-same, drop-other, column-in-frontier}
@@ -42,9 +42,12 @@ module _ (dx : ℕ) (links : List ℕ) (slot : Slot) (chain : List ℕ) (line : 
   unfolding lastPoint
   ends-there p = ap (endsAt p) (held .spells) ∙ end-of-appended p (indexedPoint dx (slot .end)) (spelled dx links chain)
 
-  pub start-tip : Tip (indexedPoint dx (linkPoint links (slot .first))) line
+  pub starts-at-start : startsAt (indexedPoint dx (linkPoint links (slot .first))) line ≡ true
   unfolding startPoint
-  start-tip = record { role = begin; there = starts-there startPoint ∙ same-refl startPoint }
+  starts-at-start = starts-there startPoint ∙ same-refl startPoint
+
+  pub start-tip : Tip (indexedPoint dx (linkPoint links (slot .first))) line
+  start-tip = record { role = begin; there = starts-at-start }
 
   pub ends-at-end : endsAt (indexedPoint dx (slot .end)) line ≡ true
   unfolding lastPoint
@@ -175,7 +178,7 @@ module _ (dx : ℕ) (live live′ : Point → Type 0) (table : List ℕ) (ls : L
 -- a line goes, and the last one's tips are filed under its new slot
 module _ (dx : ℕ) (table links : List ℕ) (ls : List Line) (m g : ℕ) (long : length ls ≡ suc m) (hg : g < suc m) (room : dx + 2 ≤ length table)
     (filed : (i : ℕ) → i < suc m → (i ≡ g → ⊥) → (p : Point) → Tip p (getD ls i []) → getD table (edgeWord dx p) 0 ≡ i)
-    (framed : (i : ℕ) → i < suc m → (p : Point) → Tip p (getD ls i []) → edgeWord dx p < dx + 2)
+    (framed : (i : ℕ) → i < suc m → (i ≡ g → ⊥) → (p : Point) → Tip p (getD ls i []) → edgeWord dx p < dx + 2)
     (alone : (i j : ℕ) → i < suc m → j < suc m → (i ≡ g → ⊥) → (j ≡ g → ⊥) → (p q : Point) → Tip p (getD ls i []) → Tip q (getD ls j []) → edgeWord dx p ≡ edgeWord dx q → i ≡ j)
     (last-tips : (m ≡ g → ⊥) → (p : Point) → Tip p (getD ls m []) → (edgeWord dx p ≡ columnWord dx (linkPoint links (firstLink dx table m)) → ⊥) → edgeWord dx p ≡ columnWord dx (endPoint dx table m))
     (first-tip : (m ≡ g → ⊥) → (p : Point) × Tip p (getD ls m []) × (edgeWord dx p ≡ columnWord dx (linkPoint links (firstLink dx table m))))
@@ -224,7 +227,7 @@ module _ (dx : ℕ) (table links : List ℕ) (ls : List Line) (m g : ℕ) (long 
   tips-stay : (m ≡ g → ⊥) → (j : ℕ) → j < m → (j ≡ g → ⊥) → (p : Point) → Tip p (getD ls j []) → getD (moved dx table links m g) (edgeWord dx p) 0 ≡ j
   unfolding w₁ w₂
   tips-stay ne j hj k p t =
-      moved-else (edgeWord dx p) (framed j (omega arith) p t)
+      moved-else (edgeWord dx p) (framed j (omega arith) k p t)
       (λ e. absurd (omega (arith, alone j m (omega arith) (omega arith) k ne p (first-tip ne .0) t (first-tip ne .1) (e ∙ sym (first-tip ne .2)))))
       (λ e. absurd (omega (arith, alone j m (omega arith) (omega arith) k ne p (end-tip′ ne .0) t (end-tip′ ne .1) (e ∙ sym (end-tip′ ne .2)))))
       ∙ filed j (omega arith) k p t

@@ -1,11 +1,11 @@
 -- What it means that the tables hold a drawing: each slot's chain of links spells its line, vertex by vertex, the rings' chains follow one another by the
 -- mark, and no link stands in two places. Laws of what a store leaves. Assumes nothing.
-use mathlib.Core.Path.{_≡_, refl, sym, _∙_, ap, ap₂, subst}
+use mathlib.Core.Path.{_≡_, refl, sym, _∙_, ap, ap₂}
 use mathlib.Core.List.{List, [], _∷_, _++_, map}
-use Prim.Native.Nat.{ℕ, zero, suc, _+_, _-_, _*_, _≤_, _<_}
+use Prim.Native.Nat.{ℕ, suc, _+_, _-_, _≤_, _<_}
 use native.Mathlib.Omega.{arith}
 use lib.ListN.{length, getD}
-use Rattle.scope.specs.Cells.{Point, indexedPoint}
+use Rattle.scope.specs.Cells.{indexedPoint}
 use Rattle.scope.specs.Stitching.{Line, Drawing}
 use Rattle.laws.proofs.Total.{total, total-at, total-two}
 use Rattle.machine.specs.Machine.{mark, linkPoint, linkNext, Tables}
@@ -37,13 +37,13 @@ HeldRings dx links head (q ∷ q′ ∷ qs) (ring ∷ []) tail = ⊥
 HeldRings dx links head (q ∷ q′ ∷ qs) (ring ∷ ring′ ∷ rings) tail =
     (last : ℕ) × (head′ : ℕ) × HeldRing dx links head last q ring × (linkNext links last ≡ mark + head′) × HeldRings dx links head′ (q′ ∷ qs) (ring′ ∷ rings) tail
 
--- the tables hold the drawing, in links with numbers below next
-pub record Held (dx next : ℕ) (t : Tables) (d : Drawing) (chains loops : List (List ℕ)) : Type 0 where
+-- the tables hold the drawing, in links with numbers below bound
+pub record Held (dx bound : ℕ) (t : Tables) (d : Drawing) (chains loops : List (List ℕ)) : Type 0 where
   pub count-is : t .progress .count ≡ length (d .lines)
   pub chains-are : length chains ≡ length (d .lines)
   pub lines-held : (i : ℕ) → i < length (d .lines) → HeldLine dx (t .links) (slotAt dx (t .lines) i) (getD chains i []) (getD (d .lines) i [])
   pub once : (k : ℕ) → total (uses k) chains + total (uses k) loops ≤ 1
-  pub unused : (k : ℕ) → next ≤ k → total (uses k) chains + total (uses k) loops ≡ 0
+  pub unused : (k : ℕ) → bound ≤ k → total (uses k) chains + total (uses k) loops ≡ 0
   pub rings-are : t .progress .rings ≡ length loops
   pub rings-held : HeldRings dx (t .links) (t .progress .head) loops (d .rings) (t .progress .tail)
 
@@ -144,6 +144,17 @@ module _ (dx : ℕ) (links links′ : List ℕ) where
     where
       away : (k : ℕ) → 1 ≤ uses k q → k ≡ tail → ⊥
       away k used e = omega (arith, uses-tail (h .1) q′ qs (r′ ∷ rings) tail (h .4), ap (λ (n : ℕ). uses n q) e)
+
+-- as many chains as rings
+pub rings-counted : (dx : ℕ) (links : List ℕ) (head : ℕ) (loops : List (List ℕ)) (rings : List Line) (tail : ℕ) → HeldRings dx links head loops rings tail → length loops ≡ length rings
+rings-counted dx links head [] [] tail h = refl
+rings-counted dx links head [] (ring ∷ rings) tail h = absurd h
+rings-counted dx links head (q ∷ []) [] tail h = absurd h
+rings-counted dx links head (q ∷ []) (ring ∷ []) tail h = refl
+rings-counted dx links head (q ∷ []) (ring ∷ ring′ ∷ rings) tail h = absurd h
+rings-counted dx links head (q ∷ q′ ∷ qs) [] tail h = absurd h
+rings-counted dx links head (q ∷ q′ ∷ qs) (ring ∷ []) tail h = absurd h
+rings-counted dx links head (q ∷ q′ ∷ qs) (ring ∷ ring′ ∷ rings) tail h = ap suc (rings-counted dx links (h .1) (q′ ∷ qs) (ring′ ∷ rings) tail (h .4))
 
 -- a link stands in one chain at the most
 module _ (chains : List (List ℕ)) where

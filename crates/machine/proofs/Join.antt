@@ -1,8 +1,8 @@
 -- Two lines become one by the new link, and the slot of the second goes: where the tables hold a drawing, they hold the drawing after the join, the lines that
--- are left in their new slots. Assumes nothing.
-use mathlib.Core.Path.{_≡_, refl, sym, _∙_, ap, ap₂, subst}
+-- are left in their new slots. The new link is in use then, and links that are not in use are as they were. Assumes nothing.
+use mathlib.Core.Path.{_≡_, refl, sym, _∙_, ap, ap₂}
 use mathlib.Core.List.{List, [], _∷_, _++_, append-assoc}
-use Prim.Native.Nat.{ℕ, suc, _+_, _-_, _≤_, _<_}
+use Prim.Native.Nat.{ℕ, _+_, _*_, _≤_, _<_}
 use native.Mathlib.Decide.{ℕ-discrete}
 use native.Mathlib.Omega.{arith}
 use lib.Dec.{eqb}
@@ -10,16 +10,16 @@ use lib.ListN.{length, getD, set, length-set}
 use lib.Seq.{getD-set-same, getD-set-other}
 use Rattle.scope.specs.Cells.{indexedPoint, when}
 use Rattle.scope.specs.Stitching as rules
-use Rattle.scope.specs.Stitching.{Line, Drawing, without}
+use Rattle.scope.specs.Stitching.{Line, Drawing}
 use Rattle.laws.proofs.Total.{total-set}
-use Rattle.machine.specs.Machine.{wordOf, linkCount, linkNext, columnWord, released, Tables, joinedLinks, joinedLines, joined}
+use Rattle.machine.specs.Machine.{wordOf, linkCount, linkNext, columnWord, Tables, joinedLinks, joinedLines, joined}
 use Rattle.machine.proofs.Views.{Slot, slotAt, length-withSlot}
 use Rattle.machine.proofs.Chains.{uses, uses-cons, uses-append, linked-still, linked-join}
 use Rattle.machine.proofs.Held.{spelled, spelled-still, HeldLine, Held, Still}
-use Rattle.machine.proofs.Removal.{dropAt, total-drop, length-drop-at, column-in-frontier, lines-left}
-use Rattle.machine.proofs.Ready.{Ready, used, in-chains, chain-used, not-new, grown-once, grown-unused, held-f, other-chain, stays, rings-stay, slot-new, slot-old, behind, behind-next, behind-still, behind-linked, behind-spelled, line-spells}
+use Rattle.machine.proofs.Removal.{dropAt, column-in-frontier, chains-left, total-left, count-left, held-left}
+use Rattle.machine.proofs.Ready.{Ready, used, in-chains, chain-used, not-new, grown-once, grown-unused, held-f, other-chain, stays, rings-stay, slot-new, slot-old, unused-not-last, behind, behind-next, behind-still, behind-linked, behind-spelled, line-spells}
 
-module _ {dx next h : ℕ} {t : Tables} {d : Drawing} {chains loops : List (List ℕ)} (now : Ready dx next h t d chains loops)
+module _ {dx bound next h : ℕ} {t : Tables} {d : Drawing} {chains loops : List (List ℕ)} (now : Ready dx bound next h t d chains loops)
     (f g : ℕ) (hf : f < length (d .lines)) (hg : g < length (d .lines)) (ne : f ≡ g → ⊥)
     (s : ℕ) (fits : length (d .lines) ≤ h) (at-end : indexedPoint dx s ≡ indexedPoint dx (slotAt dx (t .lines) f .end)) where
   open Ready now using (held)
@@ -83,42 +83,47 @@ module _ {dx next h : ℕ} {t : Tables} {d : Drawing} {chains loops : List (List
   unfolding joinedLinks behind
   joined-others i hi away = before i hi (ℕ-discrete i f)
 
-  pub join-held : Held dx (suc next) (joined dx t next s f g) (rules.join d f g) (dropAt [] (set chains f (chain f ++ (next ∷ chain g))) g) loops
-  unfolding joined rules.join without dropAt joinedLinks behind
-  join-held = by (length (d .lines) - 1) (omega arith)
+  chains-long : length chains-joined ≡ length lines-joined
+  chains-long = length-set chains f (chain f ++ (next ∷ chain g)) ∙ held .chains-are ∙ sym (length-set (d .lines) f (line f ++ line g))
+
+  lines-long : length lines-joined ≡ length (d .lines)
+  lines-long = length-set (d .lines) f (line f ++ line g)
+
+  inside : g < length lines-joined
+  inside = omega (arith, lines-long)
+
+  pub join-uses : (k : ℕ) → used (dropAt [] (set chains f (chain f ++ (next ∷ chain g))) g) loops k ≡ used chains loops k + when 1 (eqb k next)
+  join-uses k =
+      omega (
+        arith,
+        total-left chains-joined lines-joined g chains-long inside (uses k),
+        ap (uses k) (getD-set-other chains f g (chain f ++ (next ∷ chain g)) [] (λ q. ne (sym q))),
+        total-set (uses k) chains f (chain f ++ (next ∷ chain g)) [] (in-chains now f hf),
+        uses-append k (chain f) (next ∷ chain g),
+        uses-cons k next (chain g),
+      )
+
+  pub join-still : (k : ℕ) → (k ≡ next → ⊥) → used chains loops k ≡ 0 → Still (t .links) (joined dx t next s f g .links) k
+  unfolding joined joinedLinks behind
+  join-still k away none = behind-still now f hf s first k away (unused-not-last now f hf k none)
+
+  pub join-held : (bound′ : ℕ) → bound ≤ bound′ → next < bound′ → Held dx bound′ (joined dx t next s f g) (rules.join d f g) (dropAt [] (set chains f (chain f ++ (next ∷ chain g))) g) loops
+  unfolding joined rules.join joinedLinks behind
+  join-held bound′ wide below = record {
+    count-is = count-left chains-joined lines-joined g chains-long inside dx table links (t .progress .count) counted room others;
+    chains-are = chains-left chains-joined lines-joined g chains-long inside;
+    lines-held = held-left chains-joined lines-joined g chains-long inside dx table links (t .progress .count) counted room others;
+    once = grown-once now (dropAt [] chains-joined g) loops join-uses;
+    unused = grown-unused now (dropAt [] chains-joined g) loops join-uses bound′ wide below;
+    rings-are = held .rings-are;
+    rings-held = rings-stay now f hf links (behind-still now f hf s first);
+  }
     where
-      by : (m : ℕ) → length (d .lines) ≡ suc m → Held dx (suc next) (joined dx t next s f g) (rules.join d f g) (dropAt [] chains-joined g) loops
-      by m e = record {
-        count-is = one-fewer ∙ sym length-left;
-        chains-are = length-drop-at [] chains-joined g m chains-long (omega (arith, chains-long)) ∙ sym length-left;
-        lines-held = λ j hj.
-            subst (λ (n : ℕ). HeldLine dx links (slotAt dx (released dx table links n g) j) (getD (dropAt [] chains-joined g) j []) (getD (dropAt [] lines-joined g) j [])) (sym one-fewer)
-            (lines-left dx table links chains-joined lines-joined m g lines-long chains-long (omega arith) (omega (arith, length-table)) (λ i hi away. before i (omega arith) (ℕ-discrete i f)) j (omega (arith, length-left)));
-        once = grown-once now (dropAt [] chains-joined g) loops grown;
-        unused = grown-unused now (dropAt [] chains-joined g) loops grown;
-        rings-are = held .rings-are;
-        rings-held = rings-stay now f hf links (behind-still now f hf s first);
-      }
-        where
-          one-fewer : t .progress .count - 1 ≡ m
-          one-fewer = omega (arith, held .count-is)
+      counted : t .progress .count ≡ length lines-joined
+      counted = held .count-is ∙ sym lines-long
 
-          chains-long : length chains-joined ≡ suc m
-          chains-long = length-set chains f (chain f ++ (next ∷ chain g)) ∙ held .chains-are ∙ e
+      room : dx + 2 + 4 * length lines-joined ≤ length table
+      room = omega (arith, length-table, lines-long, now .room)
 
-          lines-long : length lines-joined ≡ suc m
-          lines-long = length-set (d .lines) f (line f ++ line g) ∙ e
-
-          length-left : length (dropAt [] lines-joined g) ≡ m
-          length-left = length-drop-at [] lines-joined g m lines-long (omega (arith, lines-long))
-
-          grown : (k : ℕ) → used (dropAt [] chains-joined g) loops k ≡ used chains loops k + when 1 (eqb k next)
-          grown k =
-              omega (
-                arith,
-                total-drop [] chains-joined g m chains-long (omega (arith, chains-long)) (uses k),
-                ap (uses k) (getD-set-other chains f g (chain f ++ (next ∷ chain g)) [] (λ q. ne (sym q))),
-                total-set (uses k) chains f (chain f ++ (next ∷ chain g)) [] (in-chains now f hf),
-                uses-append k (chain f) (next ∷ chain g),
-                uses-cons k next (chain g),
-              )
+      others : (i : ℕ) → i < length lines-joined → (i ≡ g → ⊥) → HeldLine dx links (slotAt dx table i) (getD chains-joined i []) (getD lines-joined i [])
+      others i hi away = before i (omega (arith, lines-long)) (ℕ-discrete i f)

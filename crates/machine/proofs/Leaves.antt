@@ -1,9 +1,9 @@
 -- One stitch that takes a line away, filed: two lines join, or one closes. The last line's tips lie on columns, so its new slot is filed under their words.
 -- Assumes nothing.
 use mathlib.Core.Path.{_≡_, refl, sym, _∙_, ap, subst}
-use mathlib.Core.Bool.{Bool, true, false, cond, false≢true}
+use mathlib.Core.Bool.{Bool, true, false, cond}
 use mathlib.Core.List.{List, [], _∷_, _++_}
-use Prim.Native.Nat.{ℕ, suc, _+_, _-_, _*_, _%_, _^_, _≤_, _<_}
+use Prim.Native.Nat.{ℕ, _+_, _-_, _*_, _%_, _^_, _≤_, _<_}
 use native.Mathlib.Decide.{ℕ-discrete}
 use native.Mathlib.Omega.{arith}
 use lib.Dec.{eqb}
@@ -13,61 +13,33 @@ use borrow.Author.Tests.{eq-eqb, ne-eqb}
 use Rattle.scope.specs.Cells.{Point, indexedPoint}
 use Rattle.scope.specs.Stitching as rules
 use Rattle.scope.specs.Stitching.{Line, Drawing, startsAt, endsAt, without}
+use Rattle.laws.proofs.Total.{total}
 use Rattle.laws.proofs.Ends.{start-of-joined, end-of-joined}
 use Rattle.laws.proofs.Strokes.{Role, begin, finish}
 use Rattle.laws.proofs.Tips.{Tip, tipBy, edgeWord, WordsApart}
 use Rattle.machine.specs.Machine.{mark, wordOf, columnWord, firstLink, lastLink, endPoint, linkCount, linkPoint, withSlot, withNext, withLink, released, Tables, joinedLinks, joinedLines, joined, closedLinks, closed}
 use Rattle.machine.proofs.Views.{slotAt, length-withSlot, frontier-of-withSlot, length-withNext, length-withLink, past-filed, past-withSlot, past-withNext, past-withLink}
-use Rattle.machine.proofs.Held.{HeldLine}
-use Rattle.machine.proofs.Removal.{dropAt, drop-same, drop-other, length-drop-at, length-released, column-in-frontier, past-released}
+use Rattle.machine.proofs.Chains.{uses}
+use Rattle.machine.proofs.Held.{HeldLine, Still}
+use Rattle.machine.proofs.Removal.{dropAt, length-released, column-in-frontier, past-released}
 use Rattle.machine.proofs.Ready.{last-below}
-use Rattle.machine.proofs.Join.{joined-others, join-held}
+use Rattle.machine.proofs.Join.{joined-others, join-uses, join-still, join-held}
 use Rattle.machine.proofs.Close.{tail-below, closed-others, close-held}
-use Rattle.machine.proofs.Filing.{start-tip, end-tip, starts-is, ends-is, ends-at-end, column-of-even, Filed, Framed, filed-left}
-use Rattle.machine.proofs.Steps.{Kept, Carried, ready, frontier-fits, framed-by}
+use Rattle.machine.proofs.Filing.{starts-is, ends-is, ends-at-end, column-of-even, Filed, Framed}
+use Rattle.machine.proofs.Leaving.{all, Columns, even-left, left-filed, leave-held, leave-filed}
+use Rattle.machine.proofs.Steps.{Kept, Carried, Handed, Grown, ready, frontier-fits, framed-by}
 
--- every tip counts
-abbrev pub all : Point → Type 0
-all p = Unit {0}
-
--- no line of the drawing has a tip of odd x
-abbrev pub Columns : List Line → Type 0
-Columns ls = (i : ℕ) → i < length ls → (p : Point) → Tip p (getD ls i []) → p .x % 2 ≡ 1 → ⊥
-
-no-tip : (p : Point) → Tip p [] → ⊥
-no-tip p tip = by (tip .role) (tip .there)
-  where
-    by : (role : Role) → tipBy role p [] ≡ true → ⊥
-    by begin h = false≢true (unfold startsAt in h)
-    by finish h = false≢true (unfold endsAt in h)
-
--- the tips of a held line of even tips, by the columns of its first link and its end
-module _ (dx : ℕ) (table links chain : List ℕ) (m : ℕ) (line : Line) (held : HeldLine dx links (slotAt dx table m) chain line) (even : (p : Point) → Tip p line → p .x % 2 ≡ 1 → ⊥) where
-  first-column : (p : Point) × Tip p line × (edgeWord dx p ≡ columnWord dx (linkPoint links (firstLink dx table m)))
-  first-column =
-      let tip = start-tip dx links (slotAt dx table m) chain line held in
-      (indexedPoint dx (linkPoint links (firstLink dx table m)), tip, column-of-even dx (linkPoint links (firstLink dx table m)) (even (indexedPoint dx (linkPoint links (firstLink dx table m))) tip))
-
-  end-column : (p : Point) × Tip p line × (edgeWord dx p ≡ columnWord dx (endPoint dx table m))
-  end-column =
-      let tip = end-tip dx links (slotAt dx table m) chain line held in
-      (indexedPoint dx (endPoint dx table m), tip, column-of-even dx (endPoint dx table m) (even (indexedPoint dx (endPoint dx table m)) tip))
-
-  which-column : (p : Point) → Tip p line → (edgeWord dx p ≡ columnWord dx (linkPoint links (firstLink dx table m)) → ⊥) → edgeWord dx p ≡ columnWord dx (endPoint dx table m)
-  unfolding first-column end-column
-  which-column p tip ne = by (tip .role) (tip .there)
-    where
-      by : (role : Role) → tipBy role p line ≡ true → edgeWord dx p ≡ columnWord dx (endPoint dx table m)
-      by begin h = absurd (ne (ap (edgeWord dx) (starts-is dx links (slotAt dx table m) chain line held p h) ∙ first-column .2))
-      by finish h = ap (edgeWord dx) (ends-is dx links (slotAt dx table m) chain line held p h) ∙ end-column .2
-
-module _ (dx h room : ℕ) (kept : Kept) (n : ℕ) (d : Drawing) (t : Tables) (now : Carried dx h room kept n all d t) (small : n < room) (s e : ℕ) (fits : length (d .lines) ≤ h) (apart : WordsApart dx (d .lines)) where
+module _ (dx h room : ℕ) (kept : Kept) (bound bound′ : ℕ) (d : Drawing) (t : Tables) (now : Carried dx h room kept bound all d t)
+    (n : ℕ) (handed : Handed room bound bound′ (now .chains) (now .loops) n) (s e : ℕ) (fits : length (d .lines) ≤ h) (apart : WordsApart dx (d .lines)) where
   lines-framed : Framed dx (d .lines)
-  lines-framed = framed-by dx n t d (now .chains) (now .loops) (now .held)
+  lines-framed = framed-by dx bound t d (now .chains) (now .loops) (now .held)
+
+  slots-fit : dx + 2 + 4 * length (d .lines) ≤ length (t .lines)
+  slots-fit = omega (arith, now .lines-long)
 
   -- ---- close
   module _ (f : ℕ) (hf : f < length (d .lines)) (ends-here : endsAt (indexedPoint dx s) (getD (d .lines) f []) ≡ true) (starts-here : startsAt (indexedPoint dx e) (getD (d .lines) f []) ≡ true)
-      (numbers : n ≤ mark) (columns : Columns (rules.close d f (indexedPoint dx e) .lines)) where
+      (numbers : bound ≤ mark) (columns : Columns (rules.close d f (indexedPoint dx e) .lines)) where
     held-f : HeldLine dx (t .links) (slotAt dx (t .lines) f) (getD (now .chains) f []) (getD (d .lines) f [])
     held-f = now .held .lines-held f hf
 
@@ -78,14 +50,18 @@ module _ (dx h room : ℕ) (kept : Kept) (n : ℕ) (d : Drawing) (t : Tables) (n
     at-start = sym (starts-is dx (t .links) (slotAt dx (t .lines) f) (getD (now .chains) f []) (getD (d .lines) f []) held-f (indexedPoint dx e) starts-here)
 
     others : (i : ℕ) → i < length (d .lines) → (i ≡ f → ⊥) → HeldLine dx (closedLinks dx t n s f) (slotAt dx (t .lines) i) (getD (now .chains) i []) (getD (d .lines) i [])
-    others = closed-others (ready now small) f hf s e at-end at-start numbers
+    others = closed-others (ready now handed) f hf s e at-end at-start
 
-    pub close-carried : length (now .loops) + 1 < 2 ^ 32 → Carried dx h room kept (suc n) all (rules.close d f (indexedPoint dx e)) (closed dx t n s f)
+    pub close-carried : length (now .loops) + 1 < 2 ^ 32 → Carried dx h room kept bound′ all (rules.close d f (indexedPoint dx e)) (closed dx t n s f)
     close-carried rings-fit = record {
       chains = _;
       loops = _;
-      held = close-held (ready now small) f hf s e at-end at-start fits rings-fit numbers;
-      filed = left (length (d .lines) - 1) (omega arith);
+      held = close-held (ready now handed) f hf s e at-end at-start fits rings-fit numbers bound′ (handed .wider) (handed .below);
+      filed =
+          unfold closed rules.close in
+          left-filed dx (t .lines) (closedLinks dx t n s f) (now .chains) (d .lines) (t .progress .count) f (now .held .count-is) (now .held .chains-are) hf slots-fit others (unfold rules.close in columns)
+          (λ i hi away p tip. now .filed i hi p tip tt)
+          (λ i j hi hj ni nj. apart i j hi hj);
       lines-long = unfold closed in rw (length-released dx (t .lines) (closedLinks dx t n s f) (t .progress .count - 1) f) (now .lines-long);
       links-long = unfold closed in subst (λ (k : ℕ). 2 * room ≤ k) (sym long-links) (now .links-long);
       lines-past = unfold closed in past-released dx h (t .lines) (closedLinks dx t n s f) (t .progress .count - 1) f (omega arith) ∙ now .lines-past;
@@ -101,8 +77,8 @@ module _ (dx h room : ℕ) (kept : Kept) (n : ℕ) (d : Drawing) (t : Tables) (n
         past-base : drop (2 * room) base ≡ drop (2 * room) (t .links)
         past-base =
             past-withNext room (withLink (t .links) n s mark) (lastLink dx (t .lines) f) n
-            (omega (arith, last-below (ready now small) f hf))
-            ∙ past-withLink room (t .links) n s mark small
+            (omega (arith, last-below (ready now handed) f hf, handed .within))
+            ∙ past-withLink room (t .links) n s mark (handed .inside)
 
         past-links : (l : List (List ℕ)) → now .loops ≡ l → drop (2 * room) (closedLinks dx t n s f) ≡ drop (2 * room) (t .links)
         past-links [] none =
@@ -112,7 +88,7 @@ module _ (dx h room : ℕ) (kept : Kept) (n : ℕ) (d : Drawing) (t : Tables) (n
             unfold closedLinks in
             subst (λ (b : Bool). drop (2 * room) (links-by b) ≡ drop (2 * room) (t .links)) (sym (ne-eqb (t .progress .rings) 0 (λ z. omega (arith, now .held .rings-are, ap length some))))
             (past-withNext room base (t .progress .tail) (wordOf (mark + firstLink dx (t .lines) f))
-            (omega (arith, tail-below (ready now small) q qs some))
+            (omega (arith, tail-below (ready now handed) q qs some, handed .within))
             ∙ past-base)
 
         long-links : length (closedLinks dx t n s f) ≡ length (t .links)
@@ -121,36 +97,6 @@ module _ (dx h room : ℕ) (kept : Kept) (n : ℕ) (d : Drawing) (t : Tables) (n
             by : (b : Bool) → length (links-by b) ≡ length (t .links)
             by true = simp (length-withNext, length-withLink)
             by false = simp (length-withNext, length-withLink)
-
-        left : (m : ℕ) → length (d .lines) ≡ suc m → Filed dx all (closed dx t n s f .lines) (rules.close d f (indexedPoint dx e) .lines)
-        left m long j hj p tip live =
-            unfold closed in
-            subst (λ (k : ℕ). getD (released dx (t .lines) (closedLinks dx t n s f) k f) (edgeWord dx p) 0 ≡ j) (sym one-fewer)
-            (filed-left dx (t .lines) (closedLinks dx t n s f) (d .lines) m f long (omega arith) (frontier-fits now)
-            (λ i hi ne q was. now .filed i (omega arith) q was tt)
-            (λ i hi q was. lines-framed i (omega arith) q was)
-            (λ i k hi hk ni nk q r was was′ w. apart i k (omega arith) (omega arith) q r was was′ w)
-            (λ ne q was away. which-column dx (t .lines) (closedLinks dx t n s f) (getD (now .chains) m []) m (getD (d .lines) m []) (others m (omega arith) ne) (even ne) q was away)
-            (λ ne. first-column dx (t .lines) (closedLinks dx t n s f) (getD (now .chains) m []) m (getD (d .lines) m []) (others m (omega arith) ne) (even ne))
-            (λ ne. end-column dx (t .lines) (closedLinks dx t n s f) (getD (now .chains) m []) m (getD (d .lines) m []) (others m (omega arith) ne) (even ne))
-            j below p after)
-          where
-            one-fewer : t .progress .count - 1 ≡ m
-            one-fewer = omega (arith, now .held .count-is)
-
-            short : length (rules.close d f (indexedPoint dx e) .lines) ≡ m
-            short = unfold rules.close without dropAt in length-drop-at [] (d .lines) f m long hf
-
-            below : j < m
-            below = omega (arith, short)
-
-            after : Tip p (getD (dropAt [] (d .lines) f) j [])
-            after = unfold rules.close without dropAt in tip
-
-            even : (m ≡ f → ⊥) → (q : Point) → Tip q (getD (d .lines) m []) → q .x % 2 ≡ 1 → ⊥
-            even ne q was =
-                columns f (omega (arith, short)) q
-                (unfold rules.close without dropAt in subst (Tip q) (sym (drop-same [] (d .lines) f m long hf (omega arith))) was)
 
   -- ---- join
   module _ (f g : ℕ) (hf : f < length (d .lines)) (hg : g < length (d .lines)) (ne : f ≡ g → ⊥)
@@ -222,91 +168,84 @@ module _ (dx h room : ℕ) (kept : Kept) (n : ℕ) (d : Drawing) (t : Tables) (n
     long-table : length table ≡ length (t .lines)
     long-table = unfold joinedLines in simp (length-set, length-withSlot)
 
-    module _ (m : ℕ) (long : length (d .lines) ≡ suc m) where
-      both-long : length both ≡ suc m
-      both-long = length-set (d .lines) f (getD (d .lines) f [] ++ getD (d .lines) g []) ∙ long
+    chains-both : List (List ℕ)
+    chains-both = set (now .chains) f (getD (now .chains) f [] ++ (n ∷ getD (now .chains) g []))
 
-      inside : g < length both
-      inside = omega (arith, both-long)
+    both-long : length both ≡ length (d .lines)
+    both-long = length-set (d .lines) f (getD (d .lines) f [] ++ getD (d .lines) g [])
 
-      short : length (rules.join d f g .lines) ≡ m
-      unfolding rules.join without dropAt
-      short = length-drop-at [] both g m both-long inside
+    chained : length chains-both ≡ length both
+    unfolding chains-both
+    chained = length-set (now .chains) f (getD (now .chains) f [] ++ (n ∷ getD (now .chains) g [])) ∙ now .held .chains-are ∙ sym both-long
 
-      even-both : (i : ℕ) → i < suc m → (i ≡ g → ⊥) → (q : Point) → Tip q (getD both i []) → q .x % 2 ≡ 1 → ⊥
-      even-both i hi away q tip = by (ℕ-discrete i m)
-        where
-          by : Dec (i ≡ m) → q .x % 2 ≡ 1 → ⊥
-          by (yes k) =
-              columns g (omega (arith, short)) q
-              (unfold rules.join without dropAt in subst (Tip q) (ap (λ (j : ℕ). getD both j []) k ∙ sym (drop-same [] both g m both-long inside (omega arith))) tip)
-          by (no k) =
-              columns i (omega (arith, short)) q
-              (unfold rules.join without dropAt in subst (Tip q) (sym (drop-other [] both g m both-long inside i (omega arith) away)) tip)
+    inside : g < length both
+    inside = omega (arith, both-long)
 
-      Z-column : edgeWord dx Z ≡ columnWord dx (endPoint dx (t .lines) g)
-      unfolding Z
-      Z-column = column-of-even dx (endPoint dx (t .lines) g) (even-both f (omega arith) ne Z Z-is-tip)
+    counted : t .progress .count ≡ length both
+    counted = now .held .count-is ∙ sym both-long
 
-      filed-both : (i : ℕ) → i < suc m → (i ≡ g → ⊥) → (p : Point) → Tip p (getD both i []) → getD table (edgeWord dx p) 0 ≡ i
-      filed-both i hi away p tip = unfold joinedLines in by (ℕ-discrete (edgeWord dx p) (columnWord dx (endPoint dx (t .lines) g)))
-        where
-          stored : List ℕ
-          stored = withSlot dx (t .lines) f (firstLink dx (t .lines) f) (lastLink dx (t .lines) g) (endPoint dx (t .lines) g) (wordOf (linkCount dx (t .lines) f + linkCount dx (t .lines) g + 1))
+    both-fit : dx + 2 + 4 * length both ≤ length table
+    both-fit = omega (arith, both-long, long-table, slots-fit)
 
-          w : ℕ
-          w = columnWord dx (endPoint dx (t .lines) g)
+    others-both : (i : ℕ) → i < length both → (i ≡ g → ⊥) → HeldLine dx links (slotAt dx table i) (getD chains-both i []) (getD both i [])
+    unfolding chains-both
+    others-both i hi away = joined-others (ready now handed) f g hf hg ne s fits ends-at i (omega (arith, both-long)) away
 
-          before : (edgeWord dx p ≡ w → ⊥) → Was i p → getD (t .lines) (edgeWord dx p) 0 ≡ i
-          before no-w (here k a) = now .filed i (omega arith) p a tt
-          before no-w (in-g k a) = absurd (no-w (ap (edgeWord dx) (end-is-Z p a) ∙ Z-column))
+    columns-both : Columns (without both g)
+    unfolding rules.join
+    columns-both = columns
 
-          by : Dec (edgeWord dx p ≡ w) → getD (set stored w f) (edgeWord dx p) 0 ≡ i
-          by (yes q) =
-              ap (λ (j : ℕ). getD (set stored w f) j 0) q
-              ∙ getD-set-same stored w f 0 (omega (
-                arith,
-                length-withSlot dx (t .lines) f (firstLink dx (t .lines) f) (lastLink dx (t .lines) g) (endPoint dx (t .lines) g) (wordOf (linkCount dx (t .lines) f + linkCount dx (t .lines) g + 1)),
-                frontier-fits now,
-                framed-both i (omega arith) p tip,
-                q,
-              ))
-              ∙ sym (apart-both i f (omega arith) hf away ne p Z tip Z-is-tip (q ∙ sym Z-column))
-          by (no q) =
-              getD-set-other stored w (edgeWord dx p) f 0 q
-              ∙ frontier-of-withSlot dx (t .lines) f (firstLink dx (t .lines) f) (lastLink dx (t .lines) g) (endPoint dx (t .lines) g) (wordOf (linkCount dx (t .lines) f + linkCount dx (t .lines) g + 1)) (edgeWord dx p) (framed-both i (omega arith) p tip)
-              ∙ before q (was i (omega arith) p tip)
+    even-both : (i : ℕ) → i < length both → (i ≡ g → ⊥) → (q : Point) → Tip q (getD both i []) → q .x % 2 ≡ 1 → ⊥
+    even-both = even-left dx table links chains-both both (t .progress .count) g counted chained inside both-fit others-both columns-both
 
-      chain-of : ℕ → List ℕ
-      chain-of i = getD (set (now .chains) f (getD (now .chains) f [] ++ (n ∷ getD (now .chains) g []))) i []
+    Z-column : edgeWord dx Z ≡ columnWord dx (endPoint dx (t .lines) g)
+    unfolding Z
+    Z-column = column-of-even dx (endPoint dx (t .lines) g) (even-both f (omega (arith, both-long)) ne Z Z-is-tip)
 
-      last-held : (m ≡ g → ⊥) → HeldLine dx links (slotAt dx table m) (chain-of m) (getD both m [])
-      unfolding chain-of
-      last-held away =
-          joined-others (ready now small) f g hf hg ne s fits ends-at m (omega arith) away
+    filed-both : (i : ℕ) → i < length both → (i ≡ g → ⊥) → (p : Point) → Tip p (getD both i []) → getD table (edgeWord dx p) 0 ≡ i
+    filed-both i hi away p tip = unfold joinedLines in by (ℕ-discrete (edgeWord dx p) (columnWord dx (endPoint dx (t .lines) g)))
+      where
+        below : i < length (d .lines)
+        below = omega (arith, both-long)
 
-      left-filed : Filed dx all (joined dx t n s f g .lines) (rules.join d f g .lines)
-      left-filed j hj p tip live =
-          unfold joined in
-          subst (λ (k : ℕ). getD (released dx table links k g) (edgeWord dx p) 0 ≡ j) (sym one-fewer)
-          (filed-left dx table links both m g both-long (omega arith) (omega (arith, long-table, frontier-fits now))
-          filed-both
-          (λ i hi q b. framed-both i (omega arith) q b)
-          (λ i k hi hk ni nk q r a b w. apart-both i k (omega arith) (omega arith) ni nk q r a b w)
-          (λ away q b no-first. which-column dx table links (chain-of m) m (getD both m []) (last-held away) (even-both m (omega arith) away) q b no-first)
-          (λ away. first-column dx table links (chain-of m) m (getD both m []) (last-held away) (even-both m (omega arith) away))
-          (λ away. end-column dx table links (chain-of m) m (getD both m []) (last-held away) (even-both m (omega arith) away))
-          j (omega (arith, short)) p (unfold rules.join without dropAt in tip))
-        where
-          one-fewer : t .progress .count - 1 ≡ m
-          one-fewer = omega (arith, now .held .count-is)
+        stored : List ℕ
+        stored = withSlot dx (t .lines) f (firstLink dx (t .lines) f) (lastLink dx (t .lines) g) (endPoint dx (t .lines) g) (wordOf (linkCount dx (t .lines) f + linkCount dx (t .lines) g + 1))
 
-    pub join-carried : Carried dx h room kept (suc n) all (rules.join d f g) (joined dx t n s f g)
+        w : ℕ
+        w = columnWord dx (endPoint dx (t .lines) g)
+
+        before : (edgeWord dx p ≡ w → ⊥) → Was i p → getD (t .lines) (edgeWord dx p) 0 ≡ i
+        before no-w (here k a) = now .filed i k p a tt
+        before no-w (in-g k a) = absurd (no-w (ap (edgeWord dx) (end-is-Z p a) ∙ Z-column))
+
+        by : Dec (edgeWord dx p ≡ w) → getD (set stored w f) (edgeWord dx p) 0 ≡ i
+        by (yes q) =
+            ap (λ (j : ℕ). getD (set stored w f) j 0) q
+            ∙ getD-set-same stored w f 0 (omega (
+              arith,
+              length-withSlot dx (t .lines) f (firstLink dx (t .lines) f) (lastLink dx (t .lines) g) (endPoint dx (t .lines) g) (wordOf (linkCount dx (t .lines) f + linkCount dx (t .lines) g + 1)),
+              frontier-fits now,
+              framed-both i below p tip,
+              q,
+            ))
+            ∙ sym (apart-both i f below hf away ne p Z tip Z-is-tip (q ∙ sym Z-column))
+        by (no q) =
+            getD-set-other stored w (edgeWord dx p) f 0 q
+            ∙ frontier-of-withSlot dx (t .lines) f (firstLink dx (t .lines) f) (lastLink dx (t .lines) g) (endPoint dx (t .lines) g) (wordOf (linkCount dx (t .lines) f + linkCount dx (t .lines) g + 1)) (edgeWord dx p) (framed-both i below p tip)
+            ∙ before q (was i below p tip)
+
+    joined-filed : Filed dx all (joined dx t n s f g .lines) (rules.join d f g .lines)
+    unfolding joined rules.join
+    joined-filed =
+        left-filed dx table links chains-both both (t .progress .count) g counted chained inside both-fit others-both columns-both filed-both
+        (λ i j hi hj ni nj. apart-both i j (omega (arith, both-long)) (omega (arith, both-long)) ni nj)
+
+    pub join-carried : Carried dx h room kept bound′ all (rules.join d f g) (joined dx t n s f g)
     join-carried = record {
       chains = _;
       loops = now .loops;
-      held = join-held (ready now small) f g hf hg ne s fits ends-at;
-      filed = left-filed (length (d .lines) - 1) (omega arith);
+      held = join-held (ready now handed) f g hf hg ne s fits ends-at bound′ (handed .wider) (handed .below);
+      filed = joined-filed;
       lines-long = unfold joined in rw (length-released dx table links (t .progress .count - 1) g, long-table) (now .lines-long);
       links-long = unfold joined joinedLinks in simp (length-withNext, length-withLink) (now .links-long);
       lines-past =
@@ -318,7 +257,51 @@ module _ (dx h room : ℕ) (kept : Kept) (n : ℕ) (d : Drawing) (t : Tables) (n
       links-past =
           unfold joined joinedLinks in
           past-withNext room (withLink (t .links) n s (firstLink dx (t .lines) g)) (lastLink dx (t .lines) f) n
-          (omega (arith, last-below (ready now small) f hf))
-          ∙ past-withLink room (t .links) n s (firstLink dx (t .lines) g) small
+          (omega (arith, last-below (ready now handed) f hf, handed .within))
+          ∙ past-withLink room (t .links) n s (firstLink dx (t .lines) g) (handed .inside)
           ∙ now .links-past;
     }
+
+    pub join-grown : Grown now join-carried n
+    unfolding join-carried
+    join-grown = record {
+      loops-same = refl;
+      uses-grown = join-uses (ready now handed) f g hf hg ne s fits ends-at;
+      still = join-still (ready now handed) f g hf hg ne s fits ends-at;
+    }
+
+-- ---- line f goes, and no ring is held for it: nothing is stored to the links of the other lines and of the rings
+module _ (dx h room : ℕ) (kept : Kept) (bound : ℕ) (d : Drawing) (t : Tables) (now : Carried dx h room kept bound all d t) (fits : length (d .lines) ≤ h) (apart : WordsApart dx (d .lines))
+    (f : ℕ) (hf : f < length (d .lines)) (links′ : List ℕ) (long : length links′ ≡ length (t .links)) (past : drop (2 * room) links′ ≡ drop (2 * room) (t .links))
+    (still : (i k : ℕ) → i < length (d .lines) → (i ≡ f → ⊥) → 1 ≤ uses k (getD (now .chains) i []) → Still (t .links) links′ k)
+    (rings-still : (k : ℕ) → 1 ≤ total (uses k) (now .loops) → Still (t .links) links′ k)
+    (columns : Columns (without (d .lines) f)) where
+  abbrev pub table-left : Tables
+  table-left = record {
+    lines = released dx (t .lines) links′ (t .progress .count - 1) f;
+    links = links′;
+    progress = record { count = t .progress .count - 1; rings = t .progress .rings; head = t .progress .head; tail = t .progress .tail };
+  }
+
+  pub leave-carried : Carried dx h room kept bound all (record { lines = without (d .lines) f; rings = d .rings }) table-left
+  leave-carried = record {
+    chains = dropAt [] (now .chains) f;
+    loops = now .loops;
+    held = leave-held (now .held) slots-fit f hf links′ still rings-still;
+    filed = leave-filed (now .held) slots-fit f hf links′ still (now .filed) apart columns;
+    lines-long = rw (length-released dx (t .lines) links′ (t .progress .count - 1) f) (now .lines-long);
+    links-long = omega (arith, now .links-long);
+    lines-past = past-released dx h (t .lines) links′ (t .progress .count - 1) f (omega arith) ∙ now .lines-past;
+    links-past = past ∙ now .links-past;
+  }
+    where
+      slots-fit : dx + 2 + 4 * length (d .lines) ≤ length (t .lines)
+      slots-fit = omega (arith, now .lines-long)
+
+  pub left-chains : leave-carried .chains ≡ dropAt [] (now .chains) f
+  unfolding leave-carried
+  left-chains = refl
+
+  pub left-loops : leave-carried .loops ≡ now .loops
+  unfolding leave-carried
+  left-loops = refl

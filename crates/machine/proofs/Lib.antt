@@ -10,12 +10,16 @@ pub mod Start
 pub mod Join
 pub mod Close
 pub mod Filing
+pub mod Leaving
+pub mod Slotted
 pub mod Steps
 pub mod Leaves
+pub mod Carrier
 pub mod Segments
 pub mod Shapes
 pub mod CellStep
 pub mod WholeCell
+pub mod RunCarrier
 pub mod WholeRun
 pub mod Walking
 pub mod Built

@@ -1,8 +1,8 @@
--- What the rules of the table machine share, over tables that hold a drawing and have room for one link more: the new link is in no chain, a line's last link
--- is in its own chain alone, and a link stored behind it leaves the other lines and the rings as they are. Assumes nothing.
+-- What the rules of the table machine share, over tables that hold a drawing and have room for one link more: the new link, of any number that is not in use, is
+-- in no chain, a line's last link is in its own chain alone, and a link stored behind it leaves the other lines and the rings as they are. Assumes nothing.
 use mathlib.Core.Path.{_≡_, sym, _∙_, ap}
 use mathlib.Core.List.{List, [], _∷_, _++_, append-nil}
-use Prim.Native.Nat.{ℕ, suc, _+_, _*_, _≤_, _<_}
+use Prim.Native.Nat.{ℕ, _+_, _*_, _≤_, _<_}
 use native.Mathlib.Decide.{ℕ-discrete, decLt}
 use native.Mathlib.Omega.{arith}
 use lib.Dec.{eqb}
@@ -25,25 +25,27 @@ uses-one x k = omega (arith, uses-cons x k [], uses-nil x)
 abbrev pub used : List (List ℕ) → List (List ℕ) → ℕ → ℕ
 used chains loops k = total (uses k) chains + total (uses k) loops
 
--- the tables hold the drawing, with slots for h lines and room for the next link
-pub record Ready (dx next h : ℕ) (t : Tables) (d : Drawing) (chains loops : List (List ℕ)) : Type 0 where
-  pub held : Held dx next t d chains loops
+-- the tables hold the drawing in links below bound, with slots for h lines; the link next is not in use, and there is room for it
+pub record Ready (dx bound next h : ℕ) (t : Tables) (d : Drawing) (chains loops : List (List ℕ)) : Type 0 where
+  pub held : Held dx bound t d chains loops
+  pub fresh : used chains loops next ≡ 0
   pub room : dx + 2 + 4 * h ≤ length (t .lines)
   pub links-room : 2 * next + 1 < length (t .links)
+  pub bound-room : 2 * bound ≤ length (t .links)
 
-module _ {dx next h : ℕ} {t : Tables} {d : Drawing} {chains loops : List (List ℕ)} (now : Ready dx next h t d chains loops) where
-  open Ready now using (held, links-room)
+module _ {dx bound next h : ℕ} {t : Tables} {d : Drawing} {chains loops : List (List ℕ)} (now : Ready dx bound next h t d chains loops) where
+  open Ready now using (held, fresh, links-room, bound-room)
 
-  -- a link in use has a number below the next
-  pub below-next : (k : ℕ) → 1 ≤ used chains loops k → k < next
-  below-next k u = by (decLt k next)
+  -- a link in use has a number below the bound, and is not the new one
+  pub below-bound : (k : ℕ) → 1 ≤ used chains loops k → k < bound
+  below-bound k u = by (decLt k bound)
     where
-      by : Dec (k < next) → k < next
+      by : Dec (k < bound) → k < bound
       by (yes q) = q
       by (no q) = absurd (omega (arith, held .unused k (omega arith)))
 
   pub not-new : (k : ℕ) → 1 ≤ used chains loops k → k ≡ next → ⊥
-  not-new k u e = omega (arith, below-next k u)
+  not-new k u e = omega (arith, fresh, ap (used chains loops) e)
 
   pub in-chains : (i : ℕ) → i < length (d .lines) → i < length chains
   in-chains i hi = omega (arith, held .chains-are)
@@ -57,11 +59,11 @@ module _ {dx next h : ℕ} {t : Tables} {d : Drawing} {chains loops : List (List
     grown-once k = by (ℕ-discrete k next)
       where
         by : Dec (k ≡ next) → used chains′ loops′ k ≤ 1
-        by (yes e) = omega (arith, more k, ap (when 1) (eq-eqb k next e), held .unused k (omega arith))
+        by (yes e) = omega (arith, more k, ap (when 1) (eq-eqb k next e), fresh, ap (used chains loops) e)
         by (no ne) = omega (arith, more k, ap (when 1) (ne-eqb k next ne), held .once k)
 
-    pub grown-unused : (k : ℕ) → suc next ≤ k → used chains′ loops′ k ≡ 0
-    grown-unused k b = omega (arith, more k, ap (when 1) (ne-eqb k next (λ e. omega arith)), held .unused k (omega arith))
+    pub grown-unused : (bound′ : ℕ) → bound ≤ bound′ → next < bound′ → (k : ℕ) → bound′ ≤ k → used chains′ loops′ k ≡ 0
+    grown-unused bound′ wide inside k b = omega (arith, more k, ap (when 1) (ne-eqb k next (λ e. omega arith)), held .unused k (omega arith))
 
   -- what the chain of line f uses, no other chain does and no ring
   module _ (f : ℕ) (hf : f < length (d .lines)) where
@@ -79,8 +81,12 @@ module _ {dx next h : ℕ} {t : Tables} {d : Drawing} {chains loops : List (List
     pub first-used : 1 ≤ used chains loops first
     first-used = chain-used f first hf (uses-first (linkNext (t .links)) first chain last (held-f .linked))
 
-    pub last-below : last < next
-    last-below = below-next last (chain-used f last hf last-used)
+    pub last-below : last < bound
+    last-below = below-bound last (chain-used f last hf last-used)
+
+    -- a link that is not in use is not the line's last
+    pub unused-not-last : (k : ℕ) → used chains loops k ≡ 0 → k ≡ last → ⊥
+    unused-not-last k none e = omega (arith, chain-used f last hf last-used, ap (used chains loops) e)
 
     pub other-chain : (i k : ℕ) → i < length (d .lines) → (i ≡ f → ⊥) → 1 ≤ uses k (getD chains i []) → k ≡ last → ⊥
     other-chain i k hi ne u e = omega (arith, held .once k, one-chain chains f i k (in-chains f hf) (in-chains i hi) ne, last-used, ap (λ (n : ℕ). uses n chain) e)
@@ -115,10 +121,10 @@ module _ {dx next h : ℕ} {t : Tables} {d : Drawing} {chains loops : List (List
       behind = withNext (withLink (t .links) next s v) last next
 
       last-fits : 2 * last + 1 < length (t .links)
-      last-fits = omega (arith, last-below)
+      last-fits = omega (arith, last-below, bound-room)
 
       last-apart : last ≡ next → ⊥
-      last-apart e = omega (arith, last-below)
+      last-apart e = not-new last (chain-used f last hf last-used) e
 
       pub length-behind : length behind ≡ length (t .links)
       unfolding behind extended

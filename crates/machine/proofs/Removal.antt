@@ -1,8 +1,8 @@
 -- A line goes: the last one takes its place, in the list of lines, in the list of chains and in the slots alike. Assumes nothing.
-use mathlib.Core.Path.{_≡_, refl, sym, _∙_, ap, ap₂, subst}
+use mathlib.Core.Path.{_≡_, refl, sym, _∙_, ap, subst}
 use mathlib.Core.Bool.{Bool, true, false, cond}
-use mathlib.Core.List.{List, [], _∷_, _++_}
-use Prim.Native.Nat.{ℕ, zero, suc, _+_, _-_, _*_, _/_, _%_, _≤_, _<_}
+use mathlib.Core.List.{List, []}
+use Prim.Native.Nat.{ℕ, suc, _+_, _-_, _*_, _≤_, _<_}
 use native.Mathlib.Nat.{mod-lt}
 use native.Mathlib.Decide.{ℕ-discrete}
 use native.Mathlib.Omega.{arith}
@@ -12,8 +12,8 @@ use lib.Seq.{getD-set-same, getD-set-other, getD-take}
 use borrow.Author.Tests.{eq-eqb, ne-eqb}
 use Rattle.scope.specs.Stitching.{Line, without}
 use Rattle.laws.proofs.Total.{total, total-moved}
-use Rattle.machine.specs.Machine.{slotWord, columnWord, firstLink, lastLink, endPoint, linkCount, linkPoint, withSlot, moved, released}
-use Rattle.machine.proofs.Views.{Slot, slotAt, length-withSlot, slot-of-filed, slot-of-other, slot-of-same, past-filed, past-withSlot}
+use Rattle.machine.specs.Machine.{columnWord, firstLink, lastLink, endPoint, linkCount, linkPoint, withSlot, moved, released}
+use Rattle.machine.proofs.Views.{slotAt, length-withSlot, slot-of-filed, slot-of-other, slot-of-same, past-filed, past-withSlot}
 use Rattle.machine.proofs.Held.{HeldLine}
 
 -- element i goes, and the last one takes its place
@@ -80,7 +80,7 @@ module _ (dx : ℕ) (lines links : List ℕ) (m i : ℕ) where
   slot-kept j ne = filed j ∙ slot-of-other dx lines i (firstLink dx lines m) (lastLink dx lines m) (endPoint dx lines m) (linkCount dx lines m) j ne
 
 -- the lines that are left are held in their new places
-pub lines-left : (dx : ℕ) (lines links : List ℕ) (chains : List (List ℕ)) (ls : List Line) (m g : ℕ)
+lines-left : (dx : ℕ) (lines links : List ℕ) (chains : List (List ℕ)) (ls : List Line) (m g : ℕ)
     → length ls ≡ suc m → length chains ≡ suc m → g < suc m → dx + 2 + 4 * suc m ≤ length lines
     → ((i : ℕ) → i < suc m → (i ≡ g → ⊥) → HeldLine dx links (slotAt dx lines i) (getD chains i []) (getD ls i []))
     → (j : ℕ) → j < m → HeldLine dx links (slotAt dx (released dx lines links m g) j) (getD (dropAt [] chains g) j []) (getD (dropAt [] ls g) j [])
@@ -100,6 +100,48 @@ lines-left dx lines links chains ls m g nl nc hg room held j hj = by (ℕ-discre
         rw (ne-eqb g m ne, e, slot-moved dx lines links m g (omega arith), drop-same [] chains g m nc (omega arith) (omega arith), drop-same [] ls g m nl (omega arith) (omega arith))
         (held m (omega arith) (λ k. ne (sym k)))
     by (no ne) (no ne′) = rw (ne-eqb g m ne, slot-kept dx lines links m g j ne′) (others ne′)
+
+-- of as many lines as there are chains, line g goes
+module _ (chains : List (List ℕ)) (ls : List Line) (g : ℕ) (chained : length chains ≡ length ls) (inside : g < length ls) where
+  abbrev m : ℕ
+  m = length ls - 1
+
+  long : length ls ≡ suc m
+  long = omega arith
+
+  length-left : length (without ls g) ≡ m
+  unfolding without dropAt
+  length-left = length-drop-at [] ls g m long inside
+
+  pub one-fewer : suc (length (without ls g)) ≡ length ls
+  one-fewer = omega (arith, length-left)
+
+  pub chains-left : length (dropAt [] chains g) ≡ length (without ls g)
+  chains-left = length-drop-at [] chains g m (chained ∙ long) (omega arith) ∙ sym length-left
+
+  pub total-left : (w : List ℕ → ℕ) → total w (dropAt [] chains g) + w (getD chains g []) ≡ total w chains
+  total-left = total-drop [] chains g m (chained ∙ long) (omega arith)
+
+  -- a line that stays has a place
+  pub place-left : (i : ℕ) → i < length ls → (i ≡ g → ⊥) → (j : ℕ) × (j < length (without ls g)) × (getD (without ls g) j [] ≡ getD ls i [])
+  unfolding without dropAt
+  place-left i hi ne = by (ℕ-discrete i m)
+    where
+      by : Dec (i ≡ m) → (j : ℕ) × (j < length (dropAt [] ls g)) × (getD (dropAt [] ls g) j [] ≡ getD ls i [])
+      by (yes e) = (g, omega (arith, length-left), drop-same [] ls g m long inside (omega arith) ∙ ap (λ (n : ℕ). getD ls n []) (sym e))
+      by (no e) = (i, omega (arith, length-left), drop-other [] ls g m long inside i (omega arith) ne)
+
+  -- and is held there, as long as its links are
+  module _ (dx : ℕ) (lines links : List ℕ) (count : ℕ) (counted : count ≡ length ls) (room : dx + 2 + 4 * length ls ≤ length lines)
+      (others : (i : ℕ) → i < length ls → (i ≡ g → ⊥) → HeldLine dx links (slotAt dx lines i) (getD chains i []) (getD ls i [])) where
+    pub count-left : count - 1 ≡ length (without ls g)
+    count-left = omega (arith, length-left)
+
+    pub held-left : (j : ℕ) → j < length (without ls g) → HeldLine dx links (slotAt dx (released dx lines links (count - 1) g) j) (getD (dropAt [] chains g) j []) (getD (without ls g) j [])
+    unfolding without dropAt
+    held-left j hj =
+        subst (λ (n : ℕ). HeldLine dx links (slotAt dx (released dx lines links n g) j) (getD (dropAt [] chains g) j []) (getD (dropAt [] ls g) j [])) (sym (count-left ∙ length-left))
+        (lines-left dx lines links chains ls m g long (chained ∙ long) (omega arith) (omega arith) (λ i hi away. others i (omega arith) away) j (omega (arith, length-left)))
 
 -- words past the slots stay
 pub past-released : (dx h : ℕ) (lines links : List ℕ) (m i : ℕ) → i < h → drop (dx + 2 + 4 * h) (released dx lines links m i) ≡ drop (dx + 2 + 4 * h) lines

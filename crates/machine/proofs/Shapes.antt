@@ -1,10 +1,11 @@
--- The shapes of a cell's strokes: quiet, one stroke of four kinds, and the two saddles. What the machine's step is for each. Assumes nothing.
+-- The shapes of a cell's strokes: quiet, one stroke of four kinds, and the two saddles. What the step of a machine that draws by the five rules is for each. Assumes nothing.
 use mathlib.Core.Path.{_≡_, refl}
 use mathlib.Core.Bool.{Bool, true, false}
 use mathlib.Core.List.{List, [], _∷_}
-use Prim.Native.Nat.{ℕ, _+_}
+use Prim.Native.Nat.{ℕ}
 use Rattle.scope.specs.Cells.{Side, Left, Right, Top, Bottom, Stroke, _⟶_, numberOf, caseTable, drawn}
-use Rattle.machine.specs.Machine.{Tables, Entry, started, appended, prepended, sideWord, drawStroke}
+use Rattle.machine.specs.Machine.{Entry, sideWord}
+use Rattle.machine.proofs.Carrier.{Carrier, strokeDrawn}
 
 -- the sides that finished cells share, and those that they do not
 pub data Near : Type 0 where
@@ -61,16 +62,17 @@ abbrev pub slotOf : Entry → Near → ℕ
 slotOf entry at-left = entry .left
 slotOf entry at-top = entry .top
 
-pub draw-onward : (dx c : ℕ) (entry : Entry) (t : Tables) (s : Near) (e : Far) (k x y : ℕ) → drawStroke dx c entry t (near s ⟶ far e) k x y ≡ appended dx t k x (slotOf entry s) y (sideWord dx c (far e))
-unfolding drawStroke sideWord
-draw-onward dx c entry t at-left at-right k x y = refl
-draw-onward dx c entry t at-left at-bottom k x y = refl
-draw-onward dx c entry t at-top at-right k x y = refl
-draw-onward dx c entry t at-top at-bottom k x y = refl
+module _ {dx : ℕ} (C : Carrier dx) (c : ℕ) (entry : Entry) (t : C .State) where
+  pub draw-onward : (s : Near) (e : Far) (x y : ℕ) → strokeDrawn C c entry t (near s ⟶ far e) x y ≡ C .appended t x (slotOf entry s) y (sideWord dx c (far e))
+  unfolding strokeDrawn sideWord
+  draw-onward at-left at-right x y = refl
+  draw-onward at-left at-bottom x y = refl
+  draw-onward at-top at-right x y = refl
+  draw-onward at-top at-bottom x y = refl
 
-pub draw-backward : (dx c : ℕ) (entry : Entry) (t : Tables) (s : Far) (e : Near) (k x y : ℕ) → drawStroke dx c entry t (far s ⟶ near e) k x y ≡ prepended dx t k x (slotOf entry e) (sideWord dx c (far s))
-unfolding drawStroke sideWord
-draw-backward dx c entry t at-right at-left k x y = refl
-draw-backward dx c entry t at-right at-top k x y = refl
-draw-backward dx c entry t at-bottom at-left k x y = refl
-draw-backward dx c entry t at-bottom at-top k x y = refl
+  pub draw-backward : (s : Far) (e : Near) (x y : ℕ) → strokeDrawn C c entry t (far s ⟶ near e) x y ≡ C .prepended t x (slotOf entry e) (sideWord dx c (far s))
+  unfolding strokeDrawn sideWord
+  draw-backward at-right at-left x y = refl
+  draw-backward at-right at-top x y = refl
+  draw-backward at-bottom at-left x y = refl
+  draw-backward at-bottom at-top x y = refl

@@ -1,7 +1,8 @@
--- A new line of one link: where the tables hold a drawing, they hold the drawing after the start. Assumes nothing.
+-- A new line of one link: where the tables hold a drawing, they hold the drawing after the start. The new link is in use then, and the other links are as
+-- they were. Assumes nothing.
 use mathlib.Core.Path.{_≡_, refl, sym, _∙_, ap}
 use mathlib.Core.List.{List, [], _∷_, _++_}
-use Prim.Native.Nat.{ℕ, suc, _+_, _^_, _<_}
+use Prim.Native.Nat.{ℕ, _+_, _^_, _≤_, _<_}
 use native.Mathlib.Nat.{mod-eq-of-lt}
 use native.Mathlib.Decide.{ℕ-discrete}
 use native.Mathlib.Omega.{arith}
@@ -18,18 +19,25 @@ use Rattle.machine.proofs.Chains.{uses}
 use Rattle.machine.proofs.Held.{spelled, HeldLine, Held, Still, line-still, rings-still}
 use Rattle.machine.proofs.Ready.{Ready, uses-one, used, in-chains, chain-used, not-new, grown-once, grown-unused}
 
-module _ {dx next h : ℕ} {t : Tables} {d : Drawing} {chains loops : List (List ℕ)} (now : Ready dx next h t d chains loops) where
+module _ {dx bound next h : ℕ} {t : Tables} {d : Drawing} {chains loops : List (List ℕ)} (now : Ready dx bound next h t d chains loops) where
   open Ready now using (held, links-room)
 
-  pub start-held : (s e ws we : ℕ) → ws < dx + 2 → we < dx + 2 → length (d .lines) < h → length (d .lines) + 1 < 2 ^ 32
-      → Held dx (suc next) (started dx t next s e ws we) (rules.start d (indexedPoint dx s) (indexedPoint dx e)) (chains ++ ((next ∷ []) ∷ [])) loops
+  pub start-uses : (k : ℕ) → used (chains ++ ((next ∷ []) ∷ [])) loops k ≡ used chains loops k + when 1 (eqb k next)
+  start-uses k = unfold total in omega (arith, total-append (uses k) chains ((next ∷ []) ∷ []), uses-one k next)
+
+  pub start-still : (s e ws we : ℕ) (k : ℕ) → (k ≡ next → ⊥) → Still (t .links) (started dx t next s e ws we .links) k
+  unfolding started
+  start-still s e ws we k ne = record { point = point-of-old (t .links) next s 0 k ne; next = next-of-old (t .links) next s 0 k ne }
+
+  pub start-held : (s e ws we : ℕ) → ws < dx + 2 → we < dx + 2 → length (d .lines) < h → length (d .lines) + 1 < 2 ^ 32 → (bound′ : ℕ) → bound ≤ bound′ → next < bound′
+      → Held dx bound′ (started dx t next s e ws we) (rules.start d (indexedPoint dx s) (indexedPoint dx e)) (chains ++ ((next ∷ []) ∷ [])) loops
   unfolding started rules.start wordOf
-  start-held s e ws we hws hwe fits small = record {
+  start-held s e ws we hws hwe fits small bound′ wide inside = record {
     count-is = rw (held .count-is) (mod-eq-of-lt small ∙ sym (length-append (d .lines) (line ∷ [])));
     chains-are = length-append chains ((next ∷ []) ∷ []) ∙ ap (λ (n : ℕ). n + 1) (held .chains-are) ∙ sym (length-append (d .lines) (line ∷ []));
     lines-held = λ i hi. by i (ℕ-discrete i (length (d .lines))) hi;
-    once = grown-once now (chains ++ ((next ∷ []) ∷ [])) loops grown;
-    unused = grown-unused now (chains ++ ((next ∷ []) ∷ [])) loops grown;
+    once = grown-once now (chains ++ ((next ∷ []) ∷ [])) loops start-uses;
+    unused = grown-unused now (chains ++ ((next ∷ []) ∷ [])) loops start-uses bound′ wide inside;
     rings-are = held .rings-are;
     rings-held = rings-still dx (t .links) links′ (t .progress .head) loops (d .rings) (t .progress .tail) (λ k u. still k (not-new now k (omega arith))) (held .rings-held);
   }
@@ -50,10 +58,7 @@ module _ {dx next h : ℕ} {t : Tables} {d : Drawing} {chains loops : List (List
       lines′ = set (set stored ws count) we count
 
       still : (k : ℕ) → (k ≡ next → ⊥) → Still (t .links) links′ k
-      still k ne = record { point = point-of-old (t .links) next s 0 k ne; next = next-of-old (t .links) next s 0 k ne }
-
-      grown : (k : ℕ) → used (chains ++ ((next ∷ []) ∷ [])) loops k ≡ used chains loops k + when 1 (eqb k next)
-      grown k = unfold total in omega (arith, total-append (uses k) chains ((next ∷ []) ∷ []), uses-one k next)
+      still = start-still s e ws we
 
       slots : (j : ℕ) → slotAt dx lines′ j ≡ slotAt dx stored j
       slots j = slot-of-filed dx (set stored ws count) we count j hwe ∙ slot-of-filed dx stored ws count j hws

@@ -1,40 +1,26 @@
 -- The whole run: after every cell the tables hold document 01's drawing, as long as they have room for the peak and for the segments. Induction over the
 -- cells in row order. Assumes nothing.
-use mathlib.Core.Path.{_≡_, refl, sym, _∙_, ap, ap₂, subst}
-use mathlib.Core.Bool.{Bool, true}
-use mathlib.Core.List.{List, [], _∷_, _++_, map}
+use mathlib.Core.Path.{_≡_, refl, sym, _∙_, ap, subst}
+use mathlib.Core.List.{List, [], _++_, map}
 use Prim.Native.Nat.{ℕ, zero, suc, _+_, _*_, _^_, _≤_, _<_}
 use native.Mathlib.Nat.{le-of-suc-le-suc, not-suc-le-zero}
 use native.Mathlib.Omega.{arith}
-use lib.ListN.{length, getD, drop, length-append, length-map}
+use lib.ListN.{length, drop, length-append, length-map}
 use Rattle.scope.specs.Terrain.{Sheet}
-use Rattle.scope.specs.Cells.{Point, Segment, placed, drawn, cellNumber, cellSegments}
-use Rattle.scope.specs.Stitching.{Line, Drawing, nothing, stitchAll}
+use Rattle.scope.specs.Cells.{Segment, placed, drawn, cellNumber, cellSegments}
+use Rattle.scope.specs.Stitching.{nothing, stitchAll}
 use Rattle.scope.specs.Drawing.{along, down, upTo, withCell, segmentsAfter, drawingAfter, openAfter, ringsAfter, segmentCount, peak}
 use Rattle.laws.proofs.Total.{total}
 use Rattle.laws.proofs.Edges.{Outside}
-use Rattle.laws.proofs.Strokes.{fitting, strokes-fit}
-use Rattle.laws.proofs.Marks.{onSide}
-use Rattle.laws.proofs.Tips.{Tip, WordsApart, words-apart-after}
+use Rattle.laws.proofs.Strokes.{strokes-fit}
+use Rattle.laws.proofs.Tips.{WordsApart, words-apart-after}
 use Rattle.laws.proofs.Laws.{segments-are-no-more, open-lines-are-no-more, rings-are-no-more}
-use Rattle.machine.specs.Machine.{mark, Tables, Run, entryOf, drawStrokes, drawCell, runAfter, runOver}
-use Rattle.machine.proofs.Chains.{uses}
-use Rattle.machine.proofs.Held.{Held, HeldRings}
+use Rattle.machine.specs.Machine.{mark, Run, entryOf, drawCell, runAfter, runOver}
 use Rattle.machine.proofs.Steps.{Kept, Carried}
-use Rattle.machine.proofs.Leaves.{all}
-use Rattle.machine.proofs.Shapes.{shape-of}
+use Rattle.machine.proofs.Leaving.{all}
+use Rattle.machine.proofs.Shapes.{Shape, shape-of}
 use Rattle.machine.proofs.WholeCell.{whole-cell}
-
--- as many chains as rings
-pub rings-counted : (dx : ℕ) (links : List ℕ) (head : ℕ) (loops : List (List ℕ)) (rings : List Line) (tail : ℕ) → HeldRings dx links head loops rings tail → length loops ≡ length rings
-rings-counted dx links head [] [] tail h = refl
-rings-counted dx links head [] (ring ∷ rings) tail h = absurd h
-rings-counted dx links head (q ∷ []) [] tail h = absurd h
-rings-counted dx links head (q ∷ []) (ring ∷ []) tail h = refl
-rings-counted dx links head (q ∷ []) (ring ∷ ring′ ∷ rings) tail h = absurd h
-rings-counted dx links head (q ∷ q′ ∷ qs) [] tail h = absurd h
-rings-counted dx links head (q ∷ q′ ∷ qs) (ring ∷ []) tail h = absurd h
-rings-counted dx links head (q ∷ q′ ∷ qs) (ring ∷ ring′ ∷ rings) tail h = ap suc (rings-counted dx links (h .1) (q′ ∷ qs) (ring′ ∷ rings) tail (h .4))
+use Rattle.machine.proofs.RunCarrier.{RunFits, run-carrier, strokes-run}
 
 module _ (A : Sheet) {dx dy : ℕ} (out : Outside A dx dy) (h room : ℕ) (kept : Kept) (peak-fits : peak A dx dy ≤ h) (links-fit : segmentCount A dx dy ≤ room) (numbers : room ≤ mark) (h-small : h < 2 ^ 32) where
   -- what holds after c cells of row r
@@ -48,10 +34,15 @@ module _ (A : Sheet) {dx dy : ℕ} (out : Outside A dx dy) (h room : ℕ) (kept 
   apart : (r c : ℕ) → c ≤ suc dx → WordsApart dx (stitchAll nothing (segmentsAfter A dx r c) .lines)
   apart r c hc = unfold drawingAfter in words-apart-after A out r c hc
 
-  few : (r c : ℕ) (run : Run) (k : RunHolds r c run) → length (k .carried .loops) ≤ length (segmentsAfter A dx r c)
-  few r c run k =
-      unfold ringsAfter drawingAfter in
-      omega (arith, rings-counted dx (run .tables .links) (run .tables .progress .head) (k .carried .loops) (stitchAll nothing (segmentsAfter A dx r c) .rings) (run .tables .progress .tail) (k .carried .held .rings-held), rings-are-no-more A out r c)
+  fits : (r c : ℕ) → r ≤ dy → c ≤ suc dx → RunFits dx h room kept (length (segmentsAfter A dx r c)) (stitchAll nothing (segmentsAfter A dx r c))
+  fits r c hr hc = record {
+    links-fit = within;
+    lines-fit = low r c hr hc;
+    rings-fit = unfold ringsAfter drawingAfter in omega (arith, within, rings-are-no-more A out r c);
+  }
+    where
+      within : length (segmentsAfter A dx r c) ≤ room
+      within = omega (arith, segments-are-no-more A out r c hr hc)
 
   one-cell-more : (r c : ℕ) → segmentsAfter A dx r (suc c) ≡ segmentsAfter A dx r c ++ map (placed c r) (drawn (cellNumber A c r))
   unfolding segmentsAfter upTo along withCell cellSegments
@@ -62,18 +53,21 @@ module _ (A : Sheet) {dx dy : ℕ} (out : Outside A dx dy) (h room : ℕ) (kept 
   run-cell r c run hr hc k = record {
     carried =
         subst (λ (σs : List Segment). Carried dx h room kept (length σs) all (stitchAll nothing σs) (drawCell A dx run c r .tables)) (sym (one-cell-more r c))
-        (subst (λ (n : ℕ). Carried dx h room kept (length (segmentsAfter A dx r c ++ map (placed c r) (drawn (cellNumber A c r)))) all (stitchAll nothing (segmentsAfter A dx r c ++ map (placed c r) (drawn (cellNumber A c r)))) (drawStrokes dx c r (entryOf dx (run .tables .lines) c) (run .tables) (drawn (cellNumber A c r)) n)) (sym (k .next-is))
-        (whole-cell A out r c hc h room kept (run .tables) (k .carried) (low r c hr (omega arith)) (drawn (cellNumber A c r))
-        (shape-of (A c (suc r)) (A (suc c) (suc r)) (A (suc c) r) (A c r))
+        (subst (Carried dx h room kept (length (segmentsAfter A dx r c ++ map (placed c r) (drawn (cellNumber A c r)))) all (stitchAll nothing (segmentsAfter A dx r c ++ map (placed c r) (drawn (cellNumber A c r)))))
+        (strokes-run dx h room kept numbers h-small c r (entryOf dx (run .tables .lines) c) run (drawn (cellNumber A c r)) shape)
+        (whole-cell A out r c hc (run-carrier dx h room kept numbers h-small) run (record { carried = k .carried; next-is = k .next-is }) (drawn (cellNumber A c r)) shape
         (strokes-fit (A c (suc r)) (A (suc c) (suc r)) (A (suc c) r) (A c r))
+        (apart r c (omega arith))
         (subst (λ (σs : List Segment). WordsApart dx (stitchAll nothing σs .lines)) (one-cell-more r c) (apart r (suc c) (omega arith)))
-        (subst (λ (σs : List Segment). length (stitchAll nothing σs .lines) ≤ h) (one-cell-more r c) (low r (suc c) hr (omega arith)))
-        (subst (λ (σs : List Segment). length σs ≤ room) (one-cell-more r c) (omega (arith, segments-are-no-more A out r (suc c) hr (omega arith))))
-        (apart r c (omega arith)) numbers (few r c run k) h-small));
+        (fits r c hr (omega arith))
+        (subst (λ (σs : List Segment). RunFits dx h room kept (length σs) (stitchAll nothing σs)) (one-cell-more r c) (fits r (suc c) hr (omega arith))) .carried));
     next-is =
         ap (λ (n : ℕ). n + length (drawn (cellNumber A c r))) (k .next-is)
         ∙ omega (arith, ap length (one-cell-more r c), length-append (segmentsAfter A dx r c) (map (placed c r) (drawn (cellNumber A c r))), length-map (drawn (cellNumber A c r)) (placed c r));
   }
+    where
+      shape : Shape (drawn (cellNumber A c r))
+      shape = unfold cellNumber in shape-of (A c (suc r)) (A (suc c) (suc r)) (A (suc c) r) (A c r)
 
   module _ (lines links : List ℕ) (lines-long : dx + 2 + 4 * h ≤ length lines) (links-long : 2 * room ≤ length links)
       (lines-kept : drop (dx + 2 + 4 * h) lines ≡ kept .past-lines) (links-kept : drop (2 * room) links ≡ kept .past-links) where

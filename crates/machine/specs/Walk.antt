@@ -8,9 +8,12 @@ use Rattle.scope.specs.Limits.{noOwner}
 use Rattle.scope.specs.Cells.{indexedPoint}
 use Rattle.machine.specs.Machine.{mark, linkPoint, linkNext}
 
--- a link's start point as two words
+-- the point of an index as two words, and a link's start point
+unfoldable pub indexWords : ℕ → ℕ → List ℕ
+indexWords dx index = indexedPoint dx index .x % 2 ^ 16 ∷ indexedPoint dx index .y % 2 ^ 16 ∷ []
+
 unfoldable pub pointWords : ℕ → List ℕ → ℕ → List ℕ
-pointWords dx links k = indexedPoint dx (linkPoint links k) .x % 2 ^ 16 ∷ indexedPoint dx (linkPoint links k) .y % 2 ^ 16 ∷ []
+pointWords dx links k = indexWords dx (linkPoint links k)
 
 -- the words of n links from link k on, in a ring that began at link first; the words of the first stand again at a ring's end
 unfoldable pub walkWords : {Word : Type 0} → (ℕ → List Word) → List ℕ → ℕ → ℕ → ℕ → List Word
