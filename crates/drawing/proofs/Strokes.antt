@@ -69,10 +69,10 @@ the-side-comes-back Right = refl
 the-side-comes-back Top = refl
 the-side-comes-back Bottom = refl
 
-the-stroke-comes-back : (stroke : Stroke) → strokeOf (numbered stroke) ≡ stroke
+pub the-stroke-comes-back : (stroke : Stroke) → strokeOf (numbered stroke) ≡ stroke
 the-stroke-comes-back (s ⟶ e) = rw (the-side-comes-back s, the-side-comes-back e)
 
-the-point-of-a-side : (dx c r : ℕ) (side : Side) → pointAt (pointsOf dx c r) side ≡ pointIndex dx (pointOf c r side)
+pub the-point-of-a-side : (dx c r : ℕ) (side : Side) → pointAt (pointsOf dx c r) side ≡ pointIndex dx (pointOf c r side)
 the-point-of-a-side dx c r Left = refl
 the-point-of-a-side dx c r Right = refl
 the-point-of-a-side dx c r Top = refl

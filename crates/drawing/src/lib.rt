@@ -1,5 +1,6 @@
 // One cell of a grid, drawn over the open table and the link table by its number. The tables may be of any length and hold anything: every step is total, as the
 // table machine is, which each contract cites.
+use cells::BOTTOM;
 use cells::LEFT;
 use cells::RIGHT;
 use cells::Stroke;
@@ -15,6 +16,7 @@ use lines::prepend;
 use lines::start;
 ghost use mathlib.Core.Path.{_≡_};
 ghost use Prim.Native.Nat.{_+_, _-_, _^_, _<_};
+ghost use Rattle.cells.specs.Sides.{numbered, strokeAt};
 ghost use Rattle.machine.specs.Machine.{sideWord};
 ghost use Rattle.lines.specs.Values.{edgesOf};
 ghost use Rattle.drawing.specs.Values.{Within, pointsOf, runOf, numberDrawn, sideOf, pointAt, isMet, lineAt, strokeOf, strokeDrawn};
@@ -33,15 +35,15 @@ fn one_before(n: u32) -> u32
 }
 
 // The indexes of the points on a cell's four sides.
-struct Points {
-    left: u32,
-    right: u32,
-    top: u32,
-    bottom: u32,
+pub struct Points {
+    pub left: u32,
+    pub right: u32,
+    pub top: u32,
+    pub bottom: u32,
 }
 
 // The points on the sides of cell (`c`, `r`).
-fn points_of(dx: u32, c: u32, r: u32) -> Points
+pub fn points_of(dx: u32, c: u32, r: u32) -> Points
     requires { ⌜ Within dx c r ⌝ }
     ensures { λ at. ⌜ at ≡ pointsOf dx c r ⌝ }
 {
@@ -56,7 +58,7 @@ fn points_of(dx: u32, c: u32, r: u32) -> Points
 }
 
 // The index of the point on a side.
-fn point_at(at: Points, side: u8) -> u32
+pub fn point_at(at: Points, side: u8) -> u32
     ensures { λ r. ⌜ r ≡ pointAt at (sideOf side) ⌝ }
 {
     match side {
@@ -68,7 +70,7 @@ fn point_at(at: Points, side: u8) -> u32
 }
 
 // Whether a line may end or start on a side before the cell is drawn: on the left and the top.
-fn meets(side: u8) -> bool
+pub fn meets(side: u8) -> bool
     ensures { λ r. ⌜ r ≡ isMet (sideOf side) ⌝ }
 {
     match side {
@@ -79,7 +81,7 @@ fn meets(side: u8) -> bool
 }
 
 // The slot of the line on a side that has one.
-fn line_at(met: Entry, side: u8) -> u32
+pub fn line_at(met: Entry, side: u8) -> u32
     ensures { λ r. ⌜ r ≡ lineAt (edgesOf met) (sideOf side) ⌝ }
 {
     match side {
@@ -89,13 +91,52 @@ fn line_at(met: Entry, side: u8) -> u32
 }
 
 // The frontier word of a side of a cell in column `c`.
-fn word_at(dx: u32, c: u32, side: u8) -> usize
+pub fn word_at(dx: u32, c: u32, side: u8) -> usize
     ensures { λ r. ⌜ r ≡ sideWord dx c (sideOf side) ⌝ }
 {
     match side {
         LEFT => dx as usize + 1,
         RIGHT => dx as usize + 1,
         _ => c as usize,
+    }
+}
+
+// The side where the first stroke of the cell with this number starts: the left one where it draws none. No arm has two numbers in a row, so that the compiler
+// takes each arm for a list of numbers.
+fn first_from(number: usize) -> u8
+    ensures { λ r. ⌜ r ≡ numbered (strokeAt number 0) .from ⌝ }
+{
+    match number {
+        1 | 5 | 9 | 13 => BOTTOM,
+        2 | 11 => RIGHT,
+        3 => RIGHT,
+        4 | 6 => TOP,
+        7 => TOP,
+        _ => LEFT,
+    }
+}
+
+// The side where it ends.
+fn first_to(number: usize) -> u8
+    ensures { λ r. ⌜ r ≡ numbered (strokeAt number 0) .to ⌝ }
+{
+    match number {
+        2 | 6 | 14 => BOTTOM,
+        4 | 12 => RIGHT,
+        13 => RIGHT,
+        8 | 10 => TOP,
+        9 | 11 => TOP,
+        _ => LEFT,
+    }
+}
+
+// The first stroke of the cell with this number, read without the case table, which a number that is not known beforehand makes dear.
+pub fn first_stroke(number: usize) -> Stroke
+    ensures { λ r. ⌜ r ≡ numbered (strokeAt number 0) ⌝ }
+{
+    Stroke {
+        from: first_from(number),
+        to: first_to(number),
     }
 }
 

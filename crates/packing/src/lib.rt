@@ -11,7 +11,7 @@ ghost use Prim.Native.Nat.{_%_, _^_};
 ghost use lib.ListN.{set};
 ghost use lib.Seq.{sets};
 ghost use Rattle.machine.specs.Machine.{linkNext};
-ghost use Rattle.machine.specs.Walk.{pointWords, walkPoints, recordWords, walkRecords};
+ghost use Rattle.machine.specs.Walk.{indexWords, pointWords, walkPoints, recordWords, walkRecords};
 ghost use Rattle.packing.specs.Cleared.{cleared};
 
 // Stores a word of the points. Past the end nothing is stored.
@@ -37,18 +37,24 @@ pub fn next_link(links: &[u32], k: u32) -> u32
     word(links, 2 * (k as usize) + 1)
 }
 
-// Stores the start point of link `k` as two words, from word `at` on: X, then Y.
-fn put_point(links: &[u32], dx: u32, k: u32, points: &mut [u16], at: usize)
-    ensures { λ _. ⌜ now (points .exit) ≡ sets (now (points .entry)) at (pointWords dx (now (links .entry)) k) ⌝ }
+// Stores the point of an index as two words, from word `at` on: X, then Y.
+pub fn put_index(points: &mut [u16], dx: u32, index: u32, at: usize)
+    ensures { λ _. ⌜ now (points .exit) ≡ sets (now (points .entry)) at (indexWords dx index) ⌝ }
 {
-    let index = word(links, 2 * (k as usize)) as u64;
     let stride = 2 * (dx as u64 + 1);
-    let x = (index % stride % 65536) as u16;
-    let y = (index / stride % 65536) as u16;
+    let x = (index as u64 % stride % 65536) as u16;
+    let y = (index as u64 / stride % 65536) as u16;
     if at < points.len() {
         put_coordinate(points, at, x);
         put_coordinate(points, at + 1, y);
     }
+}
+
+// Stores the start point of link `k`, from word `at` on.
+fn put_point(links: &[u32], dx: u32, k: u32, points: &mut [u16], at: usize)
+    ensures { λ _. ⌜ now (points .exit) ≡ sets (now (points .entry)) at (pointWords dx (now (links .entry)) k) ⌝ }
+{
+    put_index(points, dx, word(links, 2 * (k as usize)), at);
 }
 
 // Stores the record of a ring as four words, from word `at` on: the number of its first point, how many points it has, its class, and no owner.

@@ -4,7 +4,7 @@ use mathlib.Core.Path.{refl}
 use native.Mathlib.Omega.{arith}
 use borrow.Author.Needs.{needs}
 use Rattle.machine.specs.Machine.{mark}
-use Rattle.machine.specs.Walk.{pointWords}
+use Rattle.machine.specs.Walk.{indexWords, pointWords}
 use Rattle.packing.proofs.Walks.{PointsLeft, points-begin, points-next, points-closed, points-end}
 use Rattle.packing.proofs.Walks.{RecordsLeft, records-begin, records-next, records-closed, records-end, stored-room}
 use Rattle.packing.proofs.write_rings.Statement.{statement}
@@ -41,7 +41,7 @@ loop-less : tie.Need-loop-less Inv-loop μ-loop
 loop-less c = omega arith
 
 loop-again : tie.Need-loop-again Inv-loop μ-loop
-unfolding mark pointWords
+unfolding mark indexWords pointWords
 loop-again c =
     let called = c .before .before .before .before in
     let turn = called .before .before in
@@ -74,7 +74,7 @@ loop-less-2 : tie.Need-loop-less-2 Inv-loop μ-loop
 loop-less-2 c = omega arith
 
 loop-again-2 : tie.Need-loop-again-2 Inv-loop μ-loop
-unfolding mark pointWords
+unfolding mark indexWords pointWords
 loop-again-2 c =
     let recorded = c .before .before in
     let closed = recorded .before .before .before .before in
