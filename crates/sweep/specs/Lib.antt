@@ -1,0 +1,2 @@
+-- A sweep over the cells of a row.
+pub mod Sweep

@@ -1,0 +1,4 @@
+-- The trial of a row.
+pub mod Notes
+pub mod Trying
+pub mod Values
