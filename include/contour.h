@@ -30,6 +30,23 @@
  * Each call may be refused, which this leaves out. contour_geojson writes such a figure as text, and
  * contour_easy.h beside this file does all of it in one call, with tables that it owns.
  *
+ * Row by row. A caller who cannot hold the terrain hands it over a row at a time, and is given the rings that close
+ * in each row. There is no report: the open table is lent at its bound, and a call that is refused with 6, 7 or 8
+ * has changed nothing, so that it is made again with a longer table.
+ *
+ *     uint32_t state[CONTOUR_ROWS_WORDS], rings;
+ *     size_t lines_words = CONTOUR_ROWS_OPEN_WORDS(dx);
+ *     contour_rows_begin(t, dx, dy, state);
+ *     for (size_t y = 0; y < dy; y++) {
+ *         ... the next row's dx values ...
+ *         contour_rows_row(state, values, dx, lines, lines_words, links, links_words,
+ *                          points, points_words, directory, directory_words, &rings);
+ *         ... so many rings, each as above ...
+ *     }
+ *     contour_rows_end(state, lines, lines_words, links, links_words,
+ *                      points, points_words, directory, directory_words, &rings);
+ *     ... the rings that close at the lower edge ...
+ *
  * The terrain: dx columns and dy rows, each from 1 to CONTOUR_SIDE_LIMIT, 4,096, and dx * dy values, row after
  * row. A sample is above when its value >= threshold; a NaN on either side is not above. Outside the grid
  * nothing is above.
@@ -58,12 +75,23 @@
  * gives H and S, contour_band_second_report R and the number of points too, which is at most 2 * S + R here. R
  * is at most S / 2.
  *
+ * Row by row, each call needs room for itself alone:
+ *
+ *     table          words
+ *     open table     dx + 2, and 4 for each of the most lines that are open after a cell of the call
+ *     link table     2 for each of the most segments in no closed ring after a cell of the call
+ *     points         2 for each point of the rings that close in the call
+ *     directory      4 for each of these rings
+ *
+ * CONTOUR_ROWS_OPEN_WORDS(dx) words of the open table are enough at any height. The links of a ring that has closed
+ * are used again at once, so the link table goes by what is unfinished and not by S.
+ *
  * A directory record has four words: the number of the ring's first point, its number of points, its class
  * and its owner. The class is 0 for a polygon, 1 for a hole and 2 for a bare ring or a line. A polygon owns
  * itself, and a hole has the record number of its polygon for owner. CONTOUR_NO_OWNER, 4,294,967,295, is no
  * owner: a bare ring and a line have none, and a hole that belongs to no polygon is dropped.
  *
- * Refusals. The lowest that applies is returned, alone:
+ * Refusals. The lowest that applies is returned, alone, but 13 and 14 come before 5:
  *
  *      1   a side is 0 or above 4,096
  *      2   the number of values is not dx * dy
@@ -77,13 +105,18 @@
  *     10   the room for the text is short
  *     11   a ring has an odd number of words, no point, more than 67,108,864 points or a coordinate above
  *          8,192
+ *     13   a row has not dx values
+ *     14   a row after the last, an end before the last row, or a second end
+ *
+ * Number 12 is the program's, contour_geojson.
  *
  * A refused call changes nothing, except that 7 and 8 leave zeros in the needed words of both work tables,
- * as success does. What the work tables hold at entry does not matter. Words past the need never change.
+ * as success does; row by row they leave the work tables as they were. What the work tables hold at entry does not
+ * matter, but for those of a row after the first and of the end. Words past the need never change.
  *
  * Threads. The library has no memory of its own, so any number of calls may run at once, as long as nothing
  * that one of them writes is lent to another. They may share the values, the thresholds and finished figures,
- * which are only read.
+ * which are only read. A state and its work tables go from call to call, from one thread to another too.
  *
  * Stack. A call takes less than CONTOUR_STACK_BYTES of it, whatever the terrain; that is measured on the
  * compiled code and not proved. The largest frame has some 4,400 bytes, and no function calls itself.
@@ -113,6 +146,8 @@
 #define CONTOUR_BAD_RING_SET 9u
 #define CONTOUR_TEXT_SHORT 10u
 #define CONTOUR_BAD_RING 11u
+#define CONTOUR_BAD_ROW 13u
+#define CONTOUR_BAD_TURN 14u
 /* No call here returns this: those of contour_easy.h do where malloc has nothing left. */
 #define CONTOUR_NO_MEMORY 255u
 
@@ -140,11 +175,16 @@
 #define CONTOUR_RECORD_CLASS 2u
 #define CONTOUR_RECORD_OWNER 3u
 
+/* The words of the state of a terrain that comes row by row. */
+#define CONTOUR_ROWS_WORDS 140u
+
 /* The words of each table, by what the reports give. */
 #define CONTOUR_OPEN_WORDS(peak, dx) (4 * (size_t)(peak) + (size_t)(dx) + 2)
 #define CONTOUR_LINK_WORDS(segments) (2 * (size_t)(segments))
 #define CONTOUR_POINT_WORDS(points) (2 * (size_t)(points))
 #define CONTOUR_DIRECTORY_WORDS(rings) (CONTOUR_RECORD_WORDS * (size_t)(rings))
+/* The words of an open table with which no row draws 5. */
+#define CONTOUR_ROWS_OPEN_WORDS(dx) CONTOUR_OPEN_WORDS(((size_t)(dx) + 2) / 2, dx)
 
 #ifdef __cplusplus
 extern "C" {
@@ -177,6 +217,10 @@ static inline const char *contour_strerror(uint32_t number) {
         return "the room for the text is short";
     case CONTOUR_BAD_RING:
         return "a ring is empty or odd, has over 67,108,864 points or a coordinate above 8,192";
+    case CONTOUR_BAD_ROW:
+        return "the row has not a value for each column";
+    case CONTOUR_BAD_TURN:
+        return "all rows are there already, or not yet, or the end was taken";
     case CONTOUR_NO_MEMORY:
         return "there is no memory left";
     default:
@@ -296,6 +340,51 @@ uint32_t contour_lines(const double *values, size_t count, double threshold, siz
                        uint32_t *lines, size_t lines_words, uint32_t *links, size_t links_words,
                        double *points, size_t points_words, uint32_t *directory, size_t directory_words,
                        uint32_t *rings);
+
+/*
+ * Begins a terrain that comes row by row, at one threshold. The state is the caller's, CONTOUR_ROWS_WORDS words that
+ * only these three calls read and write; it may be copied, with its work tables, and both copies gone on with.
+ *
+ * Returns 0 and sets the state; or returns 1, and the state stays as it was.
+ */
+uint32_t contour_rows_begin(double threshold, size_t dx, size_t dy, uint32_t state[CONTOUR_ROWS_WORDS]);
+
+/*
+ * Takes the next row of the terrain, draws what it shows of it, and hands out the rings that close. The rings of all
+ * rows and of the end, one after the other, are those of contour_rings, in its order, with the same points.
+ *
+ * Between the calls the state holds which samples of the last row are above, and the work tables hold the unfinished
+ * lines. So a call is lent the state that the last one left, and work tables that begin with the words that it left
+ * and are no shorter: the same, or longer ones that they were copied to. Before the first row the tables may hold
+ * anything. The points and the directory are for the call alone.
+ *
+ * Returns 0 and sets *rings to the number of rings that close in this call, their points one ring after the other
+ * from the first word on, and a record a ring from the first directory word on, of class 2 and without owner.
+ *
+ * Or returns 13, 14, 5, 6, 7 or 8, the first of these that applies; state, tables and *rings then stay as they were,
+ * and the call may be made again. The room is exact: 5 to 8 come exactly where a table is shorter than the call needs.
+ *
+ * A state or work tables with other words, or shorter tables, give some refusal or some answer, and nothing past the
+ * words that are lent is read or written.
+ *
+ * A terrain whose height is not known beforehand is begun with CONTOUR_SIDE_LIMIT rows. Behind its last row comes a
+ * row of values that are not above, as NaN, which closes every line; or, if there were so many rows, the end.
+ */
+uint32_t contour_rows_row(uint32_t state[CONTOUR_ROWS_WORDS], const double *values, size_t count, uint32_t *lines,
+                          size_t lines_words, uint32_t *links, size_t links_words, uint16_t *points,
+                          size_t points_words, uint32_t *directory, size_t directory_words, uint32_t *rings);
+
+/*
+ * Ends a terrain after its last row: hands out the rings that close at its lower edge, as contour_rows_row does. No
+ * line is open then. The words of the work tables that the calls have used are zeros: CONTOUR_OPEN_WORDS(h, dx) of
+ * the open table, h being the most lines that were open after any cell, and CONTOUR_LINK_WORDS(m) of the link table,
+ * m being the most segments in no closed ring.
+ *
+ * Returns and leaves what contour_rows_row does, but for 13.
+ */
+uint32_t contour_rows_end(uint32_t state[CONTOUR_ROWS_WORDS], uint32_t *lines, size_t lines_words, uint32_t *links,
+                          size_t links_words, uint16_t *points, size_t points_words, uint32_t *directory,
+                          size_t directory_words, uint32_t *rings);
 
 /*
  * The area of a ring: the sum over i of y(i-1) * x(i) - x(i-1) * y(i), the last point standing before the

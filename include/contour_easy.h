@@ -20,6 +20,23 @@
  *
  * They are sized by the first report alone, since R is at most a fourth of the segments: so a terrain is stitched
  * once. Words that are not needed are never written.
+ *
+ * A terrain that comes row by row:
+ *
+ *     contour_rows rows = contour_easy_rows();
+ *     uint32_t number = contour_easy_begin(&rows, 1, dx, dy);
+ *     for (size_t y = 0; number == CONTOUR_OK && y < dy; y++) {
+ *         ... the next row's dx values ...
+ *         number = contour_easy_row(&rows, values, dx);
+ *         for (uint32_t k = 0; k < rows.tables.rings; k++) {
+ *             contour_ring ring = contour_easy_row_ring(&rows, k);
+ *             ...
+ *         }
+ *     }
+ *     if (number == CONTOUR_OK)
+ *         number = contour_easy_end(&rows);
+ *     ... the rings that close at the lower edge, in the same way ...
+ *     contour_easy_free_rows(&rows);
  */
 #ifndef CONTOUR_EASY_H
 #define CONTOUR_EASY_H
@@ -66,6 +83,16 @@ typedef struct contour_line {
     uint32_t number, count;
     const double *vertices;
 } contour_line;
+
+/* A terrain that comes row by row. Its tables, which draw nothing else meanwhile, hold the rings that the last call has
+ * closed, of which the first has this number among all. */
+typedef struct contour_rows {
+    contour_tables tables;
+    uint32_t first;
+
+    uint32_t state[CONTOUR_ROWS_WORDS];
+    size_t dx;
+} contour_rows;
 
 /* Tables without room. */
 static inline contour_tables contour_easy_tables(void) {
@@ -240,6 +267,103 @@ static inline uint32_t contour_easy_geojson(contour_tables *tables) {
     tables->text_length = (size_t)length;
     tables->text[length] = 0;
     return CONTOUR_OK;
+}
+
+/* A terrain that was not begun: a row is refused with 13 or 14, and the end with 14. */
+static inline contour_rows contour_easy_rows(void) {
+    contour_rows rows;
+    memset(&rows, 0, sizeof rows);
+    return rows;
+}
+
+/* Gives all memory back. The terrain is then as new. */
+static inline void contour_easy_free_rows(contour_rows *rows) {
+    contour_easy_free(&rows->tables);
+    *rows = contour_easy_rows();
+}
+
+/* Begins a terrain, in the memory of the one before. Returns CONTOUR_OK; or 1, and the one before goes on; or
+ * CONTOUR_NO_MEMORY, and none is begun. */
+static inline uint32_t contour_easy_begin(contour_rows *rows, double threshold, size_t dx, size_t dy) {
+    contour_tables *t = &rows->tables;
+    size_t needed = CONTOUR_ROWS_OPEN_WORDS(dx);
+    uint32_t number = contour_rows_begin(threshold, dx, dy, rows->state);
+    if (number != CONTOUR_OK)
+        return number;
+    contour_easy_clear(t);
+    rows->first = 0;
+    rows->dx = dx;
+    t->lines = (uint32_t *)contour_easy_room(t->lines, &t->lines_words, needed, 4);
+    if (needed <= t->lines_words)
+        return CONTOUR_OK;
+    memset(rows->state, 0, sizeof rows->state);
+    return CONTOUR_NO_MEMORY;
+}
+
+/* Twice the room in the table that a refusal names. The words of the link table are kept. */
+static inline uint32_t contour_easy_widen(contour_rows *rows, uint32_t number) {
+    contour_tables *tables = &rows->tables;
+    size_t words;
+    void *table;
+    switch (number) {
+    case CONTOUR_LINKS_SHORT:
+        words = 2 * tables->links_words + CONTOUR_LINK_WORDS(rows->dx);
+        table = realloc(tables->links, 4 * words);
+        if (table == NULL)
+            return CONTOUR_NO_MEMORY;
+        tables->links = (uint32_t *)table;
+        tables->links_words = words;
+        return CONTOUR_OK;
+    case CONTOUR_POINTS_SHORT:
+        words = 2 * tables->points_words + CONTOUR_POINT_WORDS(rows->dx);
+        tables->points = (uint16_t *)contour_easy_room(tables->points, &tables->points_words, words, 2);
+        return tables->points_words < words ? CONTOUR_NO_MEMORY : CONTOUR_OK;
+    case CONTOUR_DIRECTORY_SHORT:
+        words = 2 * tables->directory_words + CONTOUR_DIRECTORY_WORDS(rows->dx);
+        tables->directory = (uint32_t *)contour_easy_room(tables->directory, &tables->directory_words, words, 4);
+        return tables->directory_words < words ? CONTOUR_NO_MEMORY : CONTOUR_OK;
+    default:
+        return number;
+    }
+}
+
+/* A row, or the end, with as much room as it needs. */
+static inline uint32_t contour_easy_advance(contour_rows *rows, const double *values, size_t count, int ends) {
+    contour_tables *t = &rows->tables;
+    uint32_t number;
+    rows->first += t->rings;
+    contour_easy_clear(t);
+    do {
+        number = ends ? contour_rows_end(rows->state, t->lines, t->lines_words, t->links, t->links_words, t->points,
+                                         t->points_words, t->directory, t->directory_words, &t->rings)
+                      : contour_rows_row(rows->state, values, count, t->lines, t->lines_words, t->links,
+                                         t->links_words, t->points, t->points_words, t->directory,
+                                         t->directory_words, &t->rings);
+        if (number == CONTOUR_OK)
+            return CONTOUR_OK;
+        number = contour_easy_widen(rows, number);
+    } while (number == CONTOUR_OK);
+    return number;
+}
+
+/* The next row. Returns CONTOUR_OK, and the tables hold the rings that close in it; or 13, 14 or CONTOUR_NO_MEMORY,
+ * and the tables hold none; a row that was refused may be handed over again. */
+static inline uint32_t contour_easy_row(contour_rows *rows, const double *values, size_t count) {
+    return contour_easy_advance(rows, values, count, 0);
+}
+
+/* The end, after the last row. Returns CONTOUR_OK, and the tables hold the rings that close at the lower edge; or 14
+ * or CONTOUR_NO_MEMORY, and the tables hold none. */
+static inline uint32_t contour_easy_end(contour_rows *rows) {
+    return contour_easy_advance(rows, NULL, 0, 1);
+}
+
+/* Ring k of those that the last row or the end has closed, for k below rows->tables.rings; its number counts from
+ * the first row on. */
+static inline contour_ring contour_easy_row_ring(const contour_rows *rows, uint32_t k) {
+    contour_ring ring = contour_easy_ring(&rows->tables, k);
+    ring.number += rows->first;
+    return ring;
 }
 
 #endif

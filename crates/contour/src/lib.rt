@@ -1,5 +1,5 @@
-// The public face: the two reports, the rings of a grid, its lines, contours and isobands, the reports of a band, the area of a ring, a ring against a ring, and the
-// check of a ring set, the length of its text and the text.
+// The public face: the two reports, the rings of a grid, the rings of a terrain that comes row by row, a grid's lines, contours and isobands, the reports of a band,
+// the area of a ring, a ring against a ring, and the check of a ring set, the length of its text and the text.
 // None asks anything of the caller.
 use area::AreaAnswer;
 use area::Containment;
@@ -7,6 +7,8 @@ use cells::Level;
 use geojson::TextAnswer;
 use isoringbuilder::Built;
 use isoringbuilder::SecondReport;
+use rows::Rows;
+use rows::Step;
 use scan::FirstReport;
 use smoothing::Placement;
 ghost use mathlib.Core.Path.{_≡_};
@@ -16,6 +18,8 @@ ghost use Rattle.contourbuilder.specs.Contours.{ContoursBuilt};
 ghost use Rattle.geojson.specs.Written.{lengthAnswer, writtenAnswer, textAfter};
 ghost use Rattle.isoringbuilder.specs.Answers.{SecondReported, RingsBuilt};
 ghost use Rattle.linebuilder.specs.Lines.{LinesBuilt};
+ghost use Rattle.rows.specs.Called.{begunState, begunAnswer, rowCalled, endCalled};
+ghost use Rattle.rows.specs.Values.{outcomeOf};
 ghost use Rattle.scan.specs.Report.{firstReport};
 ghost use Rattle.scope.specs.GeoJson.{ringSetRefused};
 ghost use Rattle.smoothing.specs.Values.{placingOf};
@@ -57,6 +61,43 @@ pub fn contour_rings(
         (now (lines .exit)) (now (links .exit)) (now (points .exit)) (now (directory .exit)) ⌝ }
 {
     isoringbuilder::contour_rings(values, level, dx, dy, lines, links, points, directory)
+}
+
+// The state before the first row of a terrain that comes row by row. Number 1 where a side is not within the limit, and then no row is taken.
+pub fn rows_begin(level: Level, dx: usize, dy: usize) -> Step
+    ensures { λ step. ⌜ step ≡ record { state = begunState level dx dy; answer = begunAnswer dx dy } ⌝ }
+{
+    rows::begin(level, dx, dy)
+}
+
+// The next row of values. It draws a row of cells and gives out the rings that close in it, as bare rings: points packed from the first word on, and a directory
+// record a ring. Between two calls the work tables hold the unfinished lines. A refusal changes nothing.
+pub fn rows_row(
+    state: Rows,
+    values: &[f64],
+    lines: &mut [u32],
+    links: &mut [u32],
+    points: &mut [u16],
+    directory: &mut [u32],
+) -> Step
+    ensures { λ step. ⌜ outcomeOf step (now (lines .exit)) (now (links .exit)) (now (points .exit)) (now (directory .exit))
+        ≡ rowCalled state (now (values .entry)) (now (lines .entry)) (now (links .entry)) (now (points .entry)) (now (directory .entry)) ⌝ }
+{
+    rows::row(state, values, lines, links, points, directory)
+}
+
+// The last row of cells, below the last row of values. Afterwards the words of the work tables that the calls have used are zero. A refusal changes nothing.
+pub fn rows_end(
+    state: Rows,
+    lines: &mut [u32],
+    links: &mut [u32],
+    points: &mut [u16],
+    directory: &mut [u32],
+) -> Step
+    ensures { λ step. ⌜ outcomeOf step (now (lines .exit)) (now (links .exit)) (now (points .exit)) (now (directory .exit))
+        ≡ endCalled state (now (lines .entry)) (now (links .entry)) (now (points .entry)) (now (directory .entry)) ⌝ }
+{
+    rows::end(state, lines, links, points, directory)
 }
 
 // Every ring of a grid at one threshold as a line, as contour_rings gives them, with points that are smoothed where that is asked, then placed: points packed by

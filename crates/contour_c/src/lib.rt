@@ -1,5 +1,6 @@
 // The library for C and Rust. Each entry answers on every input: it returns 0 and sets the outputs,
-// or returns the refusal's number and leaves the outputs as they were. A slice passes as a pointer, then a length.
+// or returns the refusal's number and leaves the outputs as they were. A slice passes as a pointer, then a length; the words of a state, whose number is fixed,
+// as a pointer alone.
 use area::AreaAnswer;
 use area::Containment;
 use cells::Level;
@@ -7,6 +8,10 @@ use error::Refusal;
 use geojson::TextAnswer;
 use isoringbuilder::Built;
 use isoringbuilder::SecondReport;
+use rows::Step;
+use rowstate::STATE_WORDS;
+use rowstate::state_of;
+use rowstate::store_state;
 use scan::FirstReport;
 use smoothing::Placement;
 ghost use mathlib.Core.Path.{_≡_};
@@ -19,8 +24,11 @@ ghost use Rattle.bands.specs.Bands.{bandFirstReport, BandReported, BandBuilt};
 ghost use Rattle.contourbuilder.specs.Contours.{ContoursBuilt};
 ghost use Rattle.linebuilder.specs.Lines.{LinesBuilt};
 ghost use Rattle.geojson.specs.Written.{lengthAnswer, writtenAnswer, textAfter};
+ghost use Rattle.rows.specs.Called.{begunState, begunAnswer, rowCalled, endCalled};
+ghost use Rattle.rowstate.specs.Words.{stateIn};
+ghost use Rattle.contour_c.specs.ByRow.{stateWords, RowEntry};
 ghost use Rattle.contour_c.specs.Entries.{statusOf, areaOutput, containsOutput};
-ghost use Rattle.contour_c.specs.Rings.{firstStatus, firstSegments, firstPeak, SecondEntry, RingsEntry, asked};
+ghost use Rattle.contour_c.specs.Rings.{firstStatus, firstSegments, firstPeak, builtStatus, builtRings, SecondEntry, RingsEntry, asked};
 ghost use Rattle.contour_c.specs.Texts.{checkStatus, textStatus, textLength};
 
 // The area of a ring of words X, Y, X, Y, and so on: the crate's undivided one times 4, above 0 for a polygon.
@@ -155,6 +163,76 @@ pub extern "C" fn contour_rings(
         }
         Built::Refused(refusal) => error::number(refusal),
     }
+}
+
+// The status of a call for a terrain that comes row by row. Where the call is taken its state is stored in the state's words, and the number of its rings is set.
+fn settle(step: Step, state: &mut [u32; STATE_WORDS], rings: &mut u32) -> u32
+    ensures { λ r. ⌜ r ≡ builtStatus (step .answer) ⌝ }
+    ensures { λ _. ⌜ now (state .exit) ≡ stateWords (now (state .entry)) (step .state) (step .answer) ⌝ }
+    ensures { λ _. ⌜ now (rings .exit) ≡ builtRings (now (rings .entry)) (step .answer) ⌝ }
+{
+    let answer = step.answer;
+    match answer {
+        Built::Rings(count) => {
+            store_state(step.state, state);
+            *rings = count;
+            0
+        }
+        Built::Refused(why) => error::number(why),
+    }
+}
+
+// The state before the first row of a terrain that comes row by row. A refusal leaves the state's words as they were.
+#[no_mangle]
+pub extern "C" fn contour_rows_begin(
+    threshold: f64,
+    dx: usize,
+    dy: usize,
+    state: &mut [u32; STATE_WORDS],
+) -> u32
+    ensures { λ r. ⌜ r ≡ builtStatus (begunAnswer dx dy) ⌝ }
+    ensures { λ _. ⌜ now (state .exit) ≡ stateWords (now (state .entry)) (begunState (record { threshold = threshold }) dx dy) (begunAnswer dx dy) ⌝ }
+{
+    let step = rows::begin(Level { threshold }, dx, dy);
+    let mut none = 0;
+    settle(step, state, &mut none)
+}
+
+// The next row of values: the rings that close in its row of cells, as packed points and directory records, both from the first word on.
+#[no_mangle]
+pub extern "C" fn contour_rows_row(
+    state: &mut [u32; STATE_WORDS],
+    values: &[f64],
+    lines: &mut [u32],
+    links: &mut [u32],
+    points: &mut [u16],
+    directory: &mut [u32],
+    rings: &mut u32,
+) -> u32
+    ensures { λ r. ⌜ RowEntry (rowCalled (stateIn (now (state .entry))) (now (values .entry)) (now (lines .entry)) (now (links .entry)) (now (points .entry)) (now (directory .entry)))
+        (now (state .entry)) (now (rings .entry)) r
+        (now (state .exit)) (now (lines .exit)) (now (links .exit)) (now (points .exit)) (now (directory .exit)) (now (rings .exit)) ⌝ }
+{
+    let step = rows::row(state_of(state), values, lines, links, points, directory);
+    settle(step, state, rings)
+}
+
+// The last row of cells, below the last row of values. Afterwards the words that the calls have used are zero.
+#[no_mangle]
+pub extern "C" fn contour_rows_end(
+    state: &mut [u32; STATE_WORDS],
+    lines: &mut [u32],
+    links: &mut [u32],
+    points: &mut [u16],
+    directory: &mut [u32],
+    rings: &mut u32,
+) -> u32
+    ensures { λ r. ⌜ RowEntry (endCalled (stateIn (now (state .entry))) (now (lines .entry)) (now (links .entry)) (now (points .entry)) (now (directory .entry)))
+        (now (state .entry)) (now (rings .entry)) r
+        (now (state .exit)) (now (lines .exit)) (now (links .exit)) (now (points .exit)) (now (directory .exit)) (now (rings .exit)) ⌝ }
+{
+    let step = rows::end(state_of(state), lines, links, points, directory);
+    settle(step, state, rings)
 }
 
 // Every ring of a grid at a threshold as a line, as contour_rings gives them, with points that are smoothed unless `smooth` is 0, then placed by the origin and the
