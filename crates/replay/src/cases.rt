@@ -10,7 +10,7 @@ use std::num::wrapping_add_usize;
 pub const GENEROUS: u32 = 100;
 
 // The words that a generous room has beside those that are needed.
-const SPARE: usize = 3;
+pub const SPARE: usize = 3;
 
 // The code of a call that passed with other counts than expected.
 const MISCOUNTED: u32 = 99;

@@ -1,6 +1,7 @@
 // Replays what the crate answered. Standard input, the file stdin, is what `compare/run --answers` writes: the texts of rings, of contours and bands, and of lines,
 // each with how many grids it has and then a line for each grid. Every number is held to what the library answers in exact room, with each table one word short,
-// and in generous room, and so are the builds and the readers by records. Then the longest sides that pass, the nearest that do not, and lists without a pair are run.
+// and in generous room, and so are the builds and the readers by records. The grids of rings are run row by row, too. Then the longest sides that pass, the
+// nearest that do not, and lists without a pair are run.
 // A program has no exit status of its own: what differs stands in what it writes, which is held to the file stdout.
 mod calls;
 mod cases;
@@ -10,6 +11,8 @@ mod readers;
 mod recorded;
 mod region_grids;
 mod ring_grids;
+mod row_calls;
+mod row_grids;
 mod side_limits;
 mod tables;
 mod text;

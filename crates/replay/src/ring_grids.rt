@@ -7,6 +7,7 @@ use crate::grids::PLAIN;
 use crate::grids::case_of;
 use crate::grids::pair_of;
 use crate::recorded::both_hold;
+use crate::row_grids::rows_hold;
 use crate::tables::after;
 use crate::tables::put;
 use crate::tables::put_float;
@@ -103,14 +104,14 @@ fn is_whole(taken: Taken, counts: Counts) -> bool {
         && taken.words == wrapping_add_u32(counts.points, counts.points)
 }
 
-// Whether the case holds with these records and points.
+// Whether the case holds with these records and points, as a whole and row by row.
 fn taken_holds(
     case: Case,
     records: &[u32; NUMBERS],
     listed: &[u32; NUMBERS],
     values: &[f64; VALUES],
 ) -> bool {
-    both_hold(case, records, listed, values)
+    both_hold(case, records, listed, values) & rows_hold(case, records, listed, values)
 }
 
 // Whether the grid of this line is replayed without a difference.
