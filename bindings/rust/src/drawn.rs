@@ -47,8 +47,9 @@ impl Fate {
 /// A ring or a line, borrowed from the tables.
 #[derive(Clone, Copy, Debug, PartialEq)]
 pub struct Record<'t, P = Point> {
-    /// Its number: its place among all that was drawn. Those of rings, lines and a contour are counted in the
-    /// order in which they close, those of a band by size, the smallest first.
+    /// Its number: its place among all that was drawn, of a terrain that comes row by row since its first row.
+    /// Those of rings, lines and a contour are counted in the order in which they close, those of a band by size,
+    /// the smallest first.
     pub number: u32,
     /// Its class and owner.
     pub fate: Fate,
@@ -73,6 +74,8 @@ impl<P> Record<'_, P> {
 pub struct Drawn<'t, P = Point> {
     pub(crate) points: &'t [P],
     pub(crate) directory: &'t [[u32; 4]],
+    /// The number of the first of them: 0, but where rows before this one have closed rings.
+    pub(crate) first: u32,
 }
 
 /// Rings, borrowed.
@@ -104,25 +107,25 @@ impl<'t, P> Drawn<'t, P> {
     pub fn records(
         &self,
     ) -> impl ExactSizeIterator<Item = Record<'t, P>> + DoubleEndedIterator + 't {
-        let points = self.points;
+        let (points, first) = (self.points, self.first);
+        // A place fits a word: the library counts rings in one.
         self.directory
             .iter()
             .enumerate()
-            .map(move |(number, record)| record_of(number, record, points))
+            .map(move |(place, record)| record_of(first + place as u32, record, points))
     }
 
     /// That of a number.
     pub fn record(&self, number: u32) -> Option<Record<'t, P>> {
-        let place = number as usize;
+        let place = number.checked_sub(self.first)? as usize;
         let record = self.directory.get(place)?;
-        Some(record_of(place, record, self.points))
+        Some(record_of(number, record, self.points))
     }
 }
 
-/// A number fits its word: the library counts rings in one.
-fn record_of<'t, P>(number: usize, record: &'t [u32; 4], points: &'t [P]) -> Record<'t, P> {
+fn record_of<'t, P>(number: u32, record: &'t [u32; 4], points: &'t [P]) -> Record<'t, P> {
     Record {
-        number: number as u32,
+        number,
         fate: Fate::of(*record),
         points: points_of(record, points),
     }

@@ -1,5 +1,8 @@
 //! The functions of include/contour.h, all of them: compare and bench declare them by this file too.
 
+/// The words of a state between two rows.
+pub const STATE_WORDS: usize = 140;
+
 extern "C" {
     pub fn contour_first_report(
         values: *const f64,
@@ -119,6 +122,33 @@ extern "C" {
         links: *mut u32,
         links_words: usize,
         points: *mut f64,
+        points_words: usize,
+        directory: *mut u32,
+        directory_words: usize,
+        rings: *mut u32,
+    ) -> u32;
+    pub fn contour_rows_begin(threshold: f64, dx: usize, dy: usize, state: *mut u32) -> u32;
+    pub fn contour_rows_row(
+        state: *mut u32,
+        values: *const f64,
+        count: usize,
+        lines: *mut u32,
+        lines_words: usize,
+        links: *mut u32,
+        links_words: usize,
+        points: *mut u16,
+        points_words: usize,
+        directory: *mut u32,
+        directory_words: usize,
+        rings: *mut u32,
+    ) -> u32;
+    pub fn contour_rows_end(
+        state: *mut u32,
+        lines: *mut u32,
+        lines_words: usize,
+        links: *mut u32,
+        links_words: usize,
+        points: *mut u16,
         points_words: usize,
         directory: *mut u32,
         directory_words: usize,

@@ -46,7 +46,9 @@ pub fn check(regions: &Regions) -> Result<(), Refusal> {
 /// Calls a function that reads a ring set, with what else it takes.
 macro_rules! call {
     ($set:expr, $function:ident $(, $rest:expr)* $(,)?) => {{
-        let Rings { points, directory } = *$set;
+        let Rings {
+            points, directory, ..
+        } = *$set;
         let rings = word(directory.len())?;
         // Safety: the library reads the points and the directory and writes the text and the length lent,
         // within the lengths passed beside them.
@@ -144,6 +146,7 @@ impl Packed {
         Rings {
             points: &self.points,
             directory: &self.directory,
+            first: 0,
         }
     }
 }

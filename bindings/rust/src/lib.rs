@@ -3,7 +3,7 @@
 //!
 //! A [`Terrain`] is its values and sides. Its own functions hand out plain vectors. [`Tables`] keeps what the
 //! library is lent from call to call, and hands out rings as slices that it lends in turn, with the number,
-//! class and owner of each.
+//! class and owner of each. [`Rows`] takes a terrain that comes row by row and is never held.
 //!
 //! Coordinates are doubled whole numbers: sample (column, row) stands at (2·column + 1, 2·row + 1). Those of
 //! lines are floats.
@@ -30,6 +30,7 @@ mod ffi;
 mod geojson;
 mod refusal;
 mod regions;
+mod rows;
 mod tables;
 mod terrain;
 
@@ -37,8 +38,9 @@ pub use drawn::{Drawn, Fate, Lines, Record, Rings};
 pub use geojson::{check, geojson};
 pub use refusal::Refusal;
 pub use regions::{Polygon, Regions, Ring};
+pub use rows::Rows;
 pub use tables::Tables;
-pub use terrain::{Placement, Terrain};
+pub use terrain::{Placement, Terrain, SIDE_LIMIT};
 
 /// The examples of README.md.
 #[cfg(doctest)]

@@ -17,7 +17,11 @@ pub enum Refusal {
     RingSet,
     /// 11: an empty ring, more than 67,108,864 points, or a coordinate above 8,192.
     Ring,
-    /// A number that these calls do not draw, since every table has the reported room.
+    /// 13: a row has not a value for each column.
+    Row,
+    /// 14: a row after the last, an end before the last row, or a second end.
+    Turn,
+    /// A number that these calls do not draw, since every table has the room that is needed.
     Other(u32),
 }
 
@@ -31,6 +35,8 @@ impl Refusal {
             Refusal::Pair => 4,
             Refusal::RingSet => 9,
             Refusal::Ring => 11,
+            Refusal::Row => 13,
+            Refusal::Turn => 14,
             Refusal::Other(number) => number,
         }
     }
@@ -49,6 +55,8 @@ impl Refusal {
             9 => "a ring has under 4 points or over 67,108,864, is not closed or has a coordinate above 8,192",
             10 => "the room for the text is short",
             11 => "a ring is empty, has over 67,108,864 points or a coordinate above 8,192",
+            13 => "the row has not a value for each column",
+            14 => "all rows are there already, or not yet, or the end was taken",
             _ => "no refusal of these calls",
         }
     }
@@ -63,6 +71,8 @@ impl Refusal {
             4 => Err(Refusal::Pair),
             9 => Err(Refusal::RingSet),
             11 => Err(Refusal::Ring),
+            13 => Err(Refusal::Row),
+            14 => Err(Refusal::Turn),
             other => Err(Refusal::Other(other)),
         }
     }

@@ -77,6 +77,23 @@ impl Rings<'_> {
         }
         regions
     }
+
+    /// Every ring with its number, whatever its class, in vectors.
+    ///
+    /// ```
+    /// use nigrulent::{Tables, Terrain};
+    /// # fn main() -> Result<(), nigrulent::Refusal> {
+    /// let terrain = Terrain::new(&[1.0, 0.0, 1.0], 3, 1)?;
+    /// let rings = Tables::new().rings(&terrain, 1.0)?.to_rings();
+    /// assert_eq!((rings[1].number, &rings[1].points), (1, &terrain.rings(1.0)?[1]));
+    /// # Ok(())
+    /// # }
+    /// ```
+    pub fn to_rings(&self) -> Vec<Ring> {
+        self.records()
+            .map(|record| ring(record.number, record.points))
+            .collect()
+    }
 }
 
 fn ring(number: u32, points: &[Point]) -> Ring {

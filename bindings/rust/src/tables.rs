@@ -144,6 +144,7 @@ impl Tables {
         Ok(Lines {
             points: &self.vertices,
             directory: &self.directory[..rings as usize],
+            first: 0,
         })
     }
 
@@ -168,6 +169,7 @@ impl Tables {
         Ok(Rings {
             points: &self.points,
             directory: &self.directory[..rings as usize],
+            first: 0,
         })
     }
 

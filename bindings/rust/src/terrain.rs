@@ -3,7 +3,7 @@
 use crate::{Point, Refusal, Regions, Tables, Vertex};
 
 /// The largest side of a terrain.
-const SIDE_LIMIT: usize = 4096;
+pub const SIDE_LIMIT: usize = 4096;
 
 /// The samples of a terrain, row after row, with its dx columns and dy rows. A value of this type has sides
 /// that the library takes and as many values as they say.
