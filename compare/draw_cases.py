@@ -51,8 +51,15 @@ def collection(*features):
     return '{"type":"FeatureCollection","features":[\n' + ",\n".join(features) + "\n]}\n"
 
 
+def closed(heights, number, area, points):
+    """One ring of a stream, on its line."""
+    text = f'{{"type":"LineString","coordinates":{ring(*points)}}}'
+    return feature(f'{heights},"ring":{number},"area":{area}', text) + "\n"
+
+
 ON_MAP = [(110, 225), (105, 230), (100, 225), (105, 220), (110, 225)]
 UPPER_LEFT = [(1, 0.5), (0.5, 0), (0, 0.5), (0.5, 1), (1, 0.5)]
+BOTH = [(2, 0.5), (1.5, 0), (0.5, 0), (0, 0.5), (0.5, 1), (1.5, 1), (2, 0.5)]
 SECOND = [(2, 0.5), (1.5, 0), (1, 0.5), (1.5, 1), (2, 0.5)]
 # The plate at cells of 2 by 2, y up: the outer ring counterclockwise, the hole clockwise.
 PLATE_OUT = [
@@ -82,6 +89,11 @@ NO_DATA = [
     ("0", ["0", "0.0", "-0.0", "1e-30", "1.5"]),
     ("1.1", ["1.1", "1.10000002384185791", "1.1001", "1.5"]),
 ]
+
+
+# Rings of streams: about the first and about the third sample of the first row.
+CORNER = closed('"value":1', 0, 0.5, UPPER_LEFT)
+THIRD = closed('"value":1', 1, 0.5, [(3, 0.5), (2.5, 0), (2, 0.5), (2.5, 1), (3, 0.5)])
 
 
 def turned(points):
@@ -162,6 +174,36 @@ DRAWN = [
     (PLATE, "1 --levels", collection(
         feature('"value":1,"area":32,"polygons":1', polygon(PLATE_OUT, PLATE_HOLE)))),
     (PLATE, "1 --origin 0,0 --step 2,2", polygon(turned(PLATE_OUT), turned(PLATE_HOLE))),
+    # As they close: the plate's hole first, of an area below 0; all rings run as the library gives them.
+    ("1", "1 --stream", CORNER),
+    ("1", "9 --stream", ""),
+    ("\ufeff1 0 1\r\n0 0 0\r", "1 --stream", CORNER + THIRD),
+    ("1 0 1\r0 0 0", "1 --stream", CORNER + THIRD),
+    ("1,0,1\n" + "0,0,0\n" * 4095, "1 --stream", CORNER + THIRD),
+    (HEADER + ROWS, "1 --stream", closed('"value":1', 0, 50, ON_MAP)),
+    (ONE_LINE, "1 --stream", closed('"value":1', 0, 50, ON_MAP)),
+    (HEADER + "1 0 0\n0\n0 0\n", "1 --stream", closed('"value":1', 0, 50, ON_MAP)),
+    (HEADER + ROWS, "1 --stream --grid", CORNER),
+    ("1", "1 --stream --step 2,-2", closed('"value":1', 0, 2, [(2, -1), (1, 0), (0, -1), (1, -2), (2, -1)])),
+    (ANY_ORDER + "7.0\n8\n", "5 --stream --grid", closed(
+        '"value":5', 0, 0.5, [(1, 1.5), (0.5, 1), (0, 1.5), (0.5, 2), (1, 1.5)])),
+    (PLATE, "1 --stream", closed('"value":1', 0, -2, PLATE_HOLE) + closed('"value":1', 1, 34, PLATE_OUT)),
+    ("5", "5 6 --stream", closed('"low":5,"high":6', 0, 0.5, UPPER_LEFT)),
+    ("5", "4 5 --stream", ""),
+    ("1 2", "1 2 --levels --stream", closed('"value":1', 0, 1.5, BOTH) + closed('"value":2', 0, 0.5, SECOND)),
+    ("1 2", "0 2 inf --bands --stream", closed('"low":0,"high":2', 0, 0.5, UPPER_LEFT) + closed(
+        '"low":2,"high":null', 0, 0.5, SECOND)),
+]
+
+# What of a stream is printed before a fault is met, and what the message says.
+BROKEN_OFF = [
+    ("1 0 1\n0 0 0\n1 0\n", "1", CORNER + THIRD, "line 3, column 4: the row ends after 2 of 3 numbers"),
+    ("1 0 1\n0 0 0\n1 2 x\n", "1", CORNER + THIRD, "line 3, column 5: 'x' is not a number"),
+    ("1 0 1\n" + "0 0 0\n" * 4096, "1", CORNER + THIRD, "there are more than 4,096 rows"),
+    (b"1 0 1\n0 0 0\n\xff", "1", CORNER + THIRD, "line 3, column 1: this is not text; --stream reads text alone"),
+    (HEADER + "1 0\n0 0\n0", "1 --grid", CORNER, "line 8, column 2: the file ends after 5 of 6 numbers"),
+    (HEADER + ROWS + "9", "1 --grid", CORNER, "line 9, column 1: there are more numbers than 2 columns by 3 rows"),
+    ("1\n0\n" + "0 " * 600000, "1", CORNER, "line 3 has more than 1048576 bytes, and --stream holds a line"),
 ]
 
 # What is read from standard input, the words behind the file, and what the message says. The exit status is 1.
@@ -193,6 +235,8 @@ FAILING = [
     (HEADER, "1", "line 6, column 1: the file ends after 0 of 6 numbers"),
     (HEADER + ROWS + "\n1 2\n", "1", "line 10, column 1: there are more numbers than 2 columns by 3 rows"),
     (HEADER + "1 0\n0 z\n0 0\n", "1", "line 7, column 3: 'z' is not a number"),
+    ((HEADER + "1 0\n0 z\n0 0\n").replace("\n", "\r\n"), "1", "line 7, column 3: 'z' is not a number"),
+    ((HEADER + "1 0\n0 0\n").replace("\n", "\r"), "1", "line 7, column 4: the file ends after 4 of 6 numbers"),
     (HEADER + "rows 1\n" + ROWS, "1", "line 6, column 1: 'rows' is neither"),
     (HEADER + "ncols 2\n" + ROWS, "1", "line 6, column 1: ncols is given a second time"),
     (HEADER + "xllcenter 2\n" + ROWS, "1", "line 6, column 1: xllcenter is given a second time"),
@@ -211,6 +255,14 @@ FAILING = [
     ("0 1000", "--interval 0.01", "an interval of 0.01 gives more than 10000 levels from 0 to 1000"),
     ("5", "5 --svg --width 100", "the picture is too small for a map beside its axes and its legend"),
 ]
+
+# Where a stream says of these files something else: it knows neither how many rows there will be, nor GDAL.
+STREAM_SAYS = {
+    sides(4097, 1): "a row has 4097 numbers, and a side is 1 to 4,096",
+    sides(1, 4097): "there are more than 4,096 rows",
+    "line 1, column 7: this is not text; what GDAL reads is given by its name": (
+        "line 1, column 7: this is not text; --stream reads text alone, and what GDAL reads is drawn without it"),
+}
 
 # All words, and what the message says. The exit status is 2.
 MISUSED = [
@@ -249,4 +301,11 @@ MISUSED = [
     ("- 1 --step=1,b", "--step wants two numbers X,Y, not '1,b'"),
     ("- 1 --step inf,1", "--step wants finite numbers, not 'inf,1'"),
     ("- 1 --step 1,0", "a step of 0 leaves nothing to draw"),
+    ("- 1 --stream --svg", "--svg and --stream exclude each other"),
+    ("- 1 --stream --counts", "--counts and --stream exclude each other"),
+    ("- 1 --stream --lines", "--stream and --lines exclude each other"),
+    ("- 1 --stream --smooth", "--stream and --smooth exclude each other"),
+    ("- 1 2 --stream --isobands", "--stream and --isobands exclude each other"),
+    ("- --interval 1 --stream", "--stream and --interval exclude each other"),
+    ("- 1 2 3 --stream", "there are 3 thresholds"),
 ]

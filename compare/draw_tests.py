@@ -6,13 +6,16 @@ Part of compare/draw_tests.
 DRAW is the program, ROOT the top of the repository, FOLDER takes files. The last line is 'N looked at, M differ'.
 """
 
+import json
 import os
 import pathlib
+import random
+import select
 import subprocess
 import sys
 import xml.etree.ElementTree
 
-from draw_cases import DRAWN, FAILING, GRIDS, MISUSED, NO_DATA
+from draw_cases import BROKEN_OFF, DRAWN, FAILING, GRIDS, MISUSED, NO_DATA, STREAM_SAYS
 
 SVG = "{http://www.w3.org/2000/svg}"
 # What GDAL and the converters are called, which are left out of the path at times.
@@ -49,6 +52,72 @@ class Tests:
         for file in ["/nowhere/at.all", "/"]:
             status, out, said = self.run(f"{file} 1")
             yield file, (status, out) == (1, b"") and said.startswith(f"{file}: ")
+
+    def streams(self):
+        """Rings as they close are the lines of the whole terrain, in their order, and their areas add up to that of
+        its polygons. What is faulty in a file is said of it as a whole and as a stream."""
+        for given, words, printed, says in BROKEN_OFF:
+            status, out, said = self.run(f"- {words} --stream", given)
+            yield f"a stream: {says}", (status, out) == (1, printed.encode()) and said.startswith(
+                f"standard input: {says}")
+        for given, words, says in FAILING:
+            if words == "1":
+                status, _, said = self.run("- 1 --stream", given)
+                expected = STREAM_SAYS.get(says, says)
+                yield f"a stream: {expected}", status == 1 and said.startswith(f"standard input: {expected}")
+        levels = [200, 350, 500, 650]
+        yield "the hill as a stream", self.same_in_a_stream([self.hill], levels)
+        yield "the hill as a stream, in grid units", self.same_in_a_stream([self.hill, "--grid"], levels)
+        numbers = random.Random(1)
+        for k in range(40):
+            dx, dy = numbers.randint(1, 30), numbers.randint(1, 30)
+            rows = [" ".join(str(numbers.randint(0, 4)) for _ in range(dx)) for _ in range(dy)]
+            head = f"ncols {dx}\nnrows {dy}\nxllcorner 7\nyllcorner -3\ncellsize 0.5\n" if k % 2 else ""
+            file = self.folder / f"stream-{k}.txt"
+            file.write_text(head + "\n".join(rows) + "\n", encoding="ascii")
+            yield f"{file.name} as a stream", self.same_in_a_stream([file], [1, 3])
+        for file in ["/nowhere/at.all", "/"]:
+            status, out, said = self.run(f"{file} 1 --stream")
+            yield f"{file} as a stream", (status, out) == (1, b"") and said.startswith(f"{file}: ")
+
+    def same_in_a_stream(self, words, levels):
+        asked = [*words, *levels, "--levels"]
+        runs = [self.run([*asked, *more]) for more in (["--stream"], [], ["--lines"])]
+        if any(status != 0 for status, _, _ in runs):
+            return False
+        stream, whole, lines = (out for _, out, _ in runs)
+        rings = {level: [] for level in levels}
+        for feature in map(json.loads, stream.splitlines()):
+            rings[feature["properties"]["value"]].append(feature)
+        whole, lines = json.loads(whole)["features"], json.loads(lines)["features"]
+        same = sum(map(len, rings.values())) > 0
+        for level, polygons, line in zip(levels, whole, lines):
+            drawn = rings[level]
+            same &= [ring["geometry"]["coordinates"] for ring in drawn] == line["geometry"]["coordinates"]
+            same &= [ring["properties"]["ring"] for ring in drawn] == list(range(len(drawn)))
+            same &= sum(ring["properties"]["area"] for ring in drawn) == polygons["properties"]["area"]
+        return same
+
+    def at_once(self):
+        """A ring is there before the file has ended; and a terrain of 32 MB is not held."""
+        with subprocess.Popen([self.draw, "-", "1", "--stream"], stdin=subprocess.PIPE, stdout=subprocess.PIPE) as run:
+            run.stdin.write(b"1 0\n0 0\n")
+            run.stdin.flush()
+            there, _, _ = select.select([run.stdout], [], [], 60)
+            yield "a ring before the end", there != [] and run.stdout.readline().startswith(b'{"type":"Feature"')
+            run.stdin.close()
+            yield "nothing behind it", run.stdout.read() == b"" and run.wait() == 0
+        rings = self.folder / "rings.txt"
+        with rings.open("wb") as out:
+            asked = [self.draw, "-", "1", "--stream"]
+            with subprocess.Popen(asked, stdin=subprocess.PIPE, stdout=out) as run:
+                for _ in range(512):
+                    run.stdin.write(b"0 " * 4095 + b"1\n" + b"0 " * 4096 + b"\n")
+                run.stdin.close()
+                _, status, used = os.wait4(run.pid, 0)
+                run.returncode = os.waitstatus_to_exitcode(status)
+        drawn = (run.returncode, rings.read_bytes().count(b"\n"))
+        yield "a stream is not held", drawn == (0, 512) and used.ru_maxrss < 24 * 1024
 
     def handed_through_gdal(self):
         """A GeoTIFF of the hill with a map projection is drawn as the hill is; without gdal_translate a sentence
@@ -157,7 +226,7 @@ class Tests:
         yield "no converter", (status, out) == (1, b"") and "none is installed: rsvg-convert, inkscape, magick" in said
 
     def all(self):
-        parts = [self.answers, self.handed_through_gdal, self.read_as_gdal_reads]
+        parts = [self.answers, self.streams, self.at_once, self.handed_through_gdal, self.read_as_gdal_reads]
         for part in [*parts, self.pictures, self.odd_pictures, self.png]:
             yield from part()
 

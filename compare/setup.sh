@@ -84,6 +84,9 @@ find_features() {
     if library_has contour_geojson; then
         features+=(--features geojson)
     fi
+    if library_has contour_rows_row; then
+        features+=(--features rows)
+    fi
 }
 
 # A command of cargo for a package, Debian's own whatever else is on the path, with no settings of the user's. The

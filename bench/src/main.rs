@@ -9,6 +9,8 @@ mod declared;
 #[path = "../../compare/src/geojson.rs"]
 mod geojson;
 mod ours;
+#[cfg(feature = "rows")]
+mod rows;
 mod terrains;
 mod texts;
 mod theirs;
@@ -46,6 +48,10 @@ fn main() {
     } else {
         println!("the GeoJSON writer is not in the library: not timed");
     }
+    #[cfg(feature = "rows")]
+    closing.extend(terrains::ROWS.map(|rows| rows::bench(rows, runs)));
+    #[cfg(not(feature = "rows"))]
+    println!("the row form is not in the library: not timed");
     if !cfg!(feature = "regions") {
         println!("contours and bands are not in the library: not timed");
     }

@@ -83,6 +83,18 @@ pub const TEXTS: [Text; 2] = [
     ("geojson-three-quarters-1024", || noise(1_024, 1_024), 0.25),
 ];
 
+/// A line that times the row form: its name, its terrain, and the threshold.
+#[cfg(feature = "rows")]
+pub type Rows = (&'static str, fn() -> Terrain, f64);
+
+#[cfg(feature = "rows")]
+pub const ROWS: [Rows; 4] = [
+    ("rows-cone-2048", || cone(2_048), 204.8),
+    ("rows-waves-2048", || waves(2_048), 0.1),
+    ("rows-noise-2048", || noise(2_048, 2_048), 0.5),
+    ("rows-noise-4-4096", || noise(4, 4_096), 0.5),
+];
+
 impl Terrain {
     fn new(dx: usize, dy: usize, mut height: impl FnMut(usize, usize) -> f64) -> Self {
         Terrain {

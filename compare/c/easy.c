@@ -1,24 +1,34 @@
 /*
- * contour_easy.h against the exact calls in tables of their own, on random terrains with one set of tables for all;
- * what it says where it is refused or has no memory; pointers that are NULL with a count of 0; and the words of
- * contour_strerror.
+ * contour_easy.h against the exact calls in tables of their own, on random terrains with one set of tables for all,
+ * as a whole and row by row; what it says where it is refused or has no memory; pointers that are NULL with a count
+ * of 0; and the words of contour_strerror.
  */
 #include "checks.h"
 
-/* Memory that ends: so many more calls of malloc succeed. */
+/* Memory that ends: so many more calls of malloc and realloc succeed. */
 static long left_to_take = -1;
 
-static void *scarce(size_t bytes) {
+static int is_left(void) {
     if (left_to_take == 0) {
-        return NULL;
+        return 0;
     }
     left_to_take -= left_to_take > 0;
-    return malloc(bytes);
+    return 1;
+}
+
+static void *scarce(size_t bytes) {
+    return is_left() ? malloc(bytes) : NULL;
+}
+
+static void *scarce_again(void *table, size_t bytes) {
+    return is_left() ? realloc(table, bytes) : NULL;
 }
 
 #define malloc scarce
+#define realloc scarce_again
 #include "contour_easy.h"
 #undef malloc
+#undef realloc
 
 #define SIDE 12
 #define TERRAINS 2000
@@ -115,6 +125,77 @@ static void try_full_tables(void) {
     }
 }
 
+/* Whether the rings that a row or the end has closed are ours from this number on. */
+static int same_closed(const contour_rows *rows, uint32_t first) {
+    int same = 1;
+    for (uint32_t k = 0; same && k < rows->tables.rings; k++) {
+        const uint32_t *record = directory + 4 * (first + k);
+        contour_ring ring = contour_easy_row_ring(rows, k);
+        same = ring.number == first + k && ring.count == record[1] && ring.ring_class == CONTOUR_LINE &&
+               ring.owner == CONTOUR_NO_OWNER &&
+               memcmp(ring.points, points + 2 * record[0], 4 * (size_t)record[1]) == 0;
+    }
+    return same;
+}
+
+/* Terrains row by row, one after the other in the same memory. What is refused on the way changes nothing. */
+static void try_rows(void) {
+    contour_rows rows = contour_easy_rows();
+    double values[SIDE * SIDE] = {0};
+    CHECK(contour_easy_row(&rows, values, 1) == CONTOUR_BAD_ROW && contour_easy_end(&rows) == CONTOUR_BAD_TURN);
+    CHECK(contour_easy_row(&rows, NULL, 0) == CONTOUR_BAD_TURN);
+    for (int n = 0; n < TERRAINS; n++) {
+        size_t dx = 1 + below(SIDE), dy = 1 + below(SIDE), count = dx * dy;
+        double t = below(6);
+        uint32_t r = 0, closed = 0;
+        fill(values, count);
+        CHECK(contour_rings(values, count, t, dx, dy, WORK, WORDS(points), WORDS(directory), &r) == CONTOUR_OK);
+        CHECK(contour_easy_begin(&rows, t, dx, dy) == CONTOUR_OK && rows.tables.rings == 0);
+        for (size_t y = 0; y < dy; y++) {
+            CHECK(contour_easy_begin(&rows, t, dx, CONTOUR_SIDE_LIMIT + 1) == CONTOUR_BAD_SIDE);
+            CHECK(contour_easy_row(&rows, values, dx + 1) == CONTOUR_BAD_ROW && rows.tables.rings == 0);
+            CHECK(contour_easy_end(&rows) == CONTOUR_BAD_TURN && rows.tables.rings == 0);
+            CHECK(contour_easy_row(&rows, values + y * dx, dx) == CONTOUR_OK && same_closed(&rows, closed));
+            closed += rows.tables.rings;
+        }
+        CHECK(contour_easy_row(&rows, values, dx) == CONTOUR_BAD_TURN);
+        CHECK(contour_easy_end(&rows) == CONTOUR_OK && same_closed(&rows, closed));
+        CHECK(closed + rows.tables.rings == r && contour_easy_end(&rows) == CONTOUR_BAD_TURN);
+    }
+    contour_easy_free_rows(&rows);
+    CHECK(rows.tables.lines == NULL && rows.tables.links == NULL && rows.first == 0);
+}
+
+/* With memory for fewer tables than the rows take, one of them is refused; and with memory again the same row is
+ * taken, and the rings are those that there are. */
+static void try_rows_in_scarce_memory(void) {
+    const double values[] = {1, 1, 1, 1, 0, 1, 1, 1, 1};
+    for (long taken = 0; taken <= 8; taken++) {
+        contour_rows rows = contour_easy_rows();
+        uint32_t number, refused = 0;
+        left_to_take = taken;
+        number = contour_easy_begin(&rows, 1, 3, 3);
+        if (taken == 0) {
+            CHECK(number == CONTOUR_NO_MEMORY && contour_easy_row(&rows, values, 3) == CONTOUR_BAD_ROW);
+            left_to_take = -1;
+            number = contour_easy_begin(&rows, 1, 3, 3);
+        }
+        CHECK(number == CONTOUR_OK);
+        for (size_t y = 0; y < 4; y++) {
+            do {
+                number = y < 3 ? contour_easy_row(&rows, values + 3 * y, 3) : contour_easy_end(&rows);
+                refused += number == CONTOUR_NO_MEMORY;
+                left_to_take = number == CONTOUR_NO_MEMORY ? -1 : left_to_take;
+            } while (number == CONTOUR_NO_MEMORY);
+            CHECK(number == CONTOUR_OK && rows.tables.rings == (y < 2 ? 0u : 1u));
+        }
+        CHECK(contour_easy_row_ring(&rows, 0).number == 1 && contour_easy_row_ring(&rows, 0).count == 13);
+        CHECK(refused == (0 < taken && taken < 8 ? 1u : 0u));
+        left_to_take = -1;
+        contour_easy_free_rows(&rows);
+    }
+}
+
 static void try_refusals(void) {
     const double values[] = {2, 2, 2, 2, 1, 2, 2, 2, 0}, pair[] = {1, 2};
     const contour_terrain whole = {values, 9, 3, 3}, short_of_one = {values, 8, 3, 3}, flat = {values, 9, 9, 0};
@@ -158,7 +239,7 @@ static void try_scarce_memory(void) {
 /* NULL where the count is 0: refused as any short table is, and taken where nothing is needed. */
 static void try_null(void) {
     const double one[] = {1}, pair[] = {2, 3};
-    uint32_t a, b, c, d, open[3] = {0};
+    uint32_t a, b, c, d, open[3] = {0}, state[CONTOUR_ROWS_WORDS];
     uint64_t length;
     int64_t area;
     int32_t answer = 7;
@@ -175,6 +256,11 @@ static void try_null(void) {
     CHECK(contour_contours(one, 1, 2, 1, 1, open, 3, NULL, 0, NULL, 0, NULL, 0, &a) == CONTOUR_OK && a == 0);
     CHECK(contour_lines(one, 1, 2, 1, 1, 1, 0, 0, 1, 1, open, 3, NULL, 0, NULL, 0, NULL, 0, &a) == CONTOUR_OK);
     CHECK(contour_isobands(one, 1, pair, 2, 0, 1, 1, open, 3, NULL, 0, NULL, 0, NULL, 0, &a) == CONTOUR_OK);
+    CHECK(contour_rows_begin(2, 1, 1, state) == CONTOUR_OK);
+    CHECK(contour_rows_row(state, NULL, 0, NULL, 0, NULL, 0, NULL, 0, NULL, 0, &a) == CONTOUR_BAD_ROW);
+    CHECK(contour_rows_row(state, one, 1, NULL, 0, NULL, 0, NULL, 0, NULL, 0, &a) == CONTOUR_OPEN_SHORT);
+    CHECK(contour_rows_row(state, one, 1, open, 3, NULL, 0, NULL, 0, NULL, 0, &a) == CONTOUR_OK && a == 0);
+    CHECK(contour_rows_end(state, open, 3, NULL, 0, NULL, 0, NULL, 0, &a) == CONTOUR_OK && a == 0);
     CHECK(contour_area(NULL, 0, &area) == CONTOUR_BAD_RING);
     CHECK(contour_contains(NULL, 0, NULL, 0, &answer) == CONTOUR_BAD_RING);
     CHECK(contour_contains(ring, 10, NULL, 0, &answer) == CONTOUR_OK && answer == CONTOUR_BOUNDARY);
@@ -187,7 +273,7 @@ static void try_null(void) {
 
 /* Each number has words of its own. */
 static void try_words(void) {
-    const uint32_t numbers[] = {0, 1, 2, 3, 4, 5, 6, 7, 8, 9, 10, 11, CONTOUR_NO_MEMORY, 1000};
+    const uint32_t numbers[] = {0, 1, 2, 3, 4, 5, 6, 7, 8, 9, 10, 11, 13, 14, CONTOUR_NO_MEMORY, 1000};
     const size_t count = sizeof numbers / sizeof *numbers;
     char version[32];
     for (size_t k = 0; k < count; k++) {
@@ -203,6 +289,8 @@ static void try_words(void) {
 int main(void) {
     try_terrains();
     try_full_tables();
+    try_rows();
+    try_rows_in_scarce_memory();
     try_refusals();
     try_scarce_memory();
     try_null();

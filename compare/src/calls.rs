@@ -115,7 +115,7 @@ fn compare_lent(tally: &mut Tally, asked: &Asked) {
 }
 
 /// A question in words.
-fn described(asked: &Asked) -> String {
+pub fn described(asked: &Asked) -> String {
     let grid = asked.grid;
     let (dx, dy, count) = (grid.dx, grid.dy, grid.values.len());
     let shown = grid.values.iter().take(VALUES_SHOWN);

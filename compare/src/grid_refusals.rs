@@ -13,7 +13,7 @@ use crate::tally::Tally;
 
 /// The sides that draw refusal 1, with sides that pass among them. The products of the last few pass the
 /// word's end.
-const SIDES: [usize; 11] = [
+pub const SIDES: [usize; 11] = [
     0,
     1,
     2,

@@ -113,6 +113,16 @@ impl Lent {
         self.points.floats_at(GUARDS)
     }
 
+    /// All tables and outputs as they stand in another of the same room; the guards stay.
+    #[cfg(feature = "rows")]
+    pub fn adopt(&mut self, other: &Lent) {
+        for place in places(self.room) {
+            self.words[place.clone()].copy_from_slice(&other.words[place]);
+        }
+        let points = GUARDS..GUARDS + self.room.of(Table::Points);
+        self.points.adopt(points, &other.points);
+    }
+
     /// Sets one of the four outputs.
     pub fn set(&mut self, output: usize, number: u32) {
         let place = places(self.room)[output].start;

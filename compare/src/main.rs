@@ -1,6 +1,7 @@
 //! Asks the crate and our static library the same questions and counts the answers that differ. What is
-//! expected comes from the crate or from `exact`, `counts`, `ring_sets`, `geojson`, `word_text` and `program_inputs`,
-//! which are document 01 written down once more. Here stands what the command line asks for; `parts` has the parts.
+//! expected comes from the crate or from `exact`, `counts`, `row_drawing`, `ring_sets`, `geojson`, `word_text` and
+//! `program_inputs`, which are document 01 written down once more. Here stands what the command line asks for;
+//! `parts` has the parts.
 
 mod answers;
 mod area_checks;
@@ -36,6 +37,16 @@ mod region_checks;
 mod ring_checks;
 mod ring_sets;
 mod rings;
+#[cfg(feature = "rows")]
+mod row_calls;
+#[cfg(feature = "rows")]
+mod row_checks;
+#[cfg(feature = "rows")]
+mod row_drawing;
+#[cfg(feature = "rows")]
+mod row_entries;
+#[cfg(feature = "rows")]
+mod row_faults;
 mod set_faults;
 mod shapes;
 mod tally;

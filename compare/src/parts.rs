@@ -11,6 +11,8 @@ use crate::{
     area_checks, bounds, grid_refusals, line_checks, lists, printed, refusals, region_checks,
     ring_checks, set_faults, text_checks,
 };
+#[cfg(feature = "rows")]
+use crate::{row_checks, row_faults};
 
 /// What there is to compare beside the library, and how much.
 pub struct Plan {
@@ -36,6 +38,10 @@ impl Plan {
     pub fn compare(&self, tally: &mut Tally) {
         self.compare_area_and_contains(tally);
         self.compare_rings(tally);
+        #[cfg(feature = "rows")]
+        self.compare_rows(tally);
+        #[cfg(not(feature = "rows"))]
+        tally.lacks("the row form is not in the library: not compared");
         if cfg!(feature = "regions") {
             self.compare_regions(tally);
         } else {
@@ -95,25 +101,45 @@ impl Plan {
         });
         for _ in 0..self.rounds {
             tally.part("rings, small grids", |t| {
-                grids += ring_checks::random_small_grids(t, random)
+                grids += ring_checks::random_small_grids(t, random, ring_checks::compare_grid)
             });
             tally.part("rings, every shape up to 64 by 64", |t| {
-                grids += ring_checks::every_shape(t, random)
+                grids += ring_checks::every_shape(t, random, ring_checks::compare_grid)
             });
             tally.part("rings, thin grids", |t| {
-                grids += ring_checks::thin_grids(t, random)
+                grids += ring_checks::thin_grids(t, random, ring_checks::compare_grid)
             });
             tally.part("rings, several refusals at once", |t| {
                 grid_refusals::mixed(t, random, Kind::Rings)
             });
             tally.part("rings, about words and tiles", |t| {
-                grids += ring_checks::words_and_tiles(t, random)
+                grids += ring_checks::words_and_tiles(t, random, ring_checks::compare_grid)
             });
         }
         tally.part("rings, 4,096 by 4,096", |t| {
             ring_checks::largest_grid(t, random)
         });
         tally.note(&format!("the rings of {grids} grids in every kind of room"));
+    }
+
+    #[cfg(feature = "rows")]
+    fn compare_rows(&self, tally: &mut Tally) {
+        let random = &mut self.random(6);
+        let mut grids = 0;
+        tally.part("rows, all two-valued grids of up to 12 samples", |t| {
+            grids += row_checks::all_small_grids(t, random)
+        });
+        tally.part("rows, refusal 1", |t| row_checks::sides(t, random));
+        tally.part("rows, the longest sides and strange thresholds", |t| {
+            grids += row_checks::limits(t, random)
+        });
+        for _ in 0..self.rounds {
+            grids += random_rows(tally, random);
+            tally.part("rows, states and tables that no call left", |t| {
+                row_faults::any(t, random)
+            });
+        }
+        tally.note(&format!("the rings of {grids} grids row by row"));
     }
 
     fn compare_regions(&self, tally: &mut Tally) {
@@ -206,7 +232,26 @@ impl Plan {
     }
 }
 
-/// The contours and bands that come once. Like the next three it returns how many grids there were.
+/// The terrains of a round, row by row. Like the next four it returns how many grids there were.
+#[cfg(feature = "rows")]
+fn random_rows(tally: &mut Tally, random: &mut Random) -> u64 {
+    let mut grids = 0;
+    tally.part("rows, small grids", |t| {
+        grids += ring_checks::random_small_grids(t, random, row_checks::compare_grid)
+    });
+    tally.part("rows, every shape up to 64 by 64", |t| {
+        grids += ring_checks::every_shape(t, random, row_checks::compare_grid)
+    });
+    tally.part("rows, thin grids", |t| {
+        grids += ring_checks::thin_grids(t, random, row_checks::compare_grid)
+    });
+    tally.part("rows, about words and tiles", |t| {
+        grids += ring_checks::words_and_tiles(t, random, row_checks::compare_grid)
+    });
+    grids
+}
+
+/// The contours and bands that come once.
 fn listed_regions(tally: &mut Tally, random: &mut Random) -> u64 {
     let mut grids = 0;
     tally.part("regions, all two-valued grids of up to 9 samples", |t| {

@@ -64,6 +64,17 @@ impl Points {
         }
     }
 
+    /// Some of the words as they stand in others.
+    #[cfg(feature = "rows")]
+    pub fn adopt(&mut self, range: Range<usize>, other: &Points) {
+        match (self, other) {
+            (Points::Words(to), Points::Words(from)) => {
+                to[range.clone()].copy_from_slice(&from[range])
+            }
+            _ => unreachable!("only rings come row by row"),
+        }
+    }
+
     /// Where the words from this one on stand.
     pub fn words_at(&mut self, at: usize) -> *mut u16 {
         match self {

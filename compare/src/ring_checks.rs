@@ -1,14 +1,17 @@
-//! The two reports and `contour_rings` on whole terrains: every answer and every word of every table.
+//! The two reports and `contour_rings` on whole terrains: every answer and every word of every table. Most of the
+//! terrains are compared row by row too.
 
 use crate::asked::Asked;
 use crate::calls::{compare_asked, compare_exact};
 use crate::counts::peak_by_lookup;
-use crate::drawing::Drawing;
 use crate::kinds::Kind;
 use crate::random::Random;
 use crate::rings::{flat_grid, random_grid, small_grids, Grid};
 use crate::shapes::{self, LONGEST_SIDE};
 use crate::tally::Tally;
+
+/// What a terrain is compared by: all of it at once, or row by row.
+pub type Compare = fn(&mut Tally, &mut Random, &Grid);
 
 /// How many small grids of random shape a round draws.
 const SMALL_GRIDS: usize = 165_000;
@@ -19,7 +22,7 @@ pub fn all_small_grids(tally: &mut Tally, random: &mut Random) -> u64 {
     let mut grids = 0;
     for grid in small_grids(12) {
         grids += 1;
-        let drawing = compare_grid(tally, random, &grid);
+        let drawing = compare_asked(tally, random, &Asked::new(Kind::Rings, &grid));
         let peak = peak_by_lookup(&grid);
         assert!(drawing.counts.peak == peak, "two counts of H");
     }
@@ -27,35 +30,35 @@ pub fn all_small_grids(tally: &mut Tally, random: &mut Random) -> u64 {
 }
 
 /// Random grids of sides up to nine.
-pub fn random_small_grids(tally: &mut Tally, random: &mut Random) -> u64 {
+pub fn random_small_grids(tally: &mut Tally, random: &mut Random, compare: Compare) -> u64 {
     shapes::small(random, SMALL_GRIDS, |random, dx, dy| {
-        compare_random(tally, random, dx, dy)
+        compare_random(tally, random, dx, dy, compare)
     })
 }
 
 /// A random grid of every shape up to 64 by 64.
-pub fn every_shape(tally: &mut Tally, random: &mut Random) -> u64 {
+pub fn every_shape(tally: &mut Tally, random: &mut Random, compare: Compare) -> u64 {
     shapes::every(random, 64, |random, dx, dy| {
-        compare_random(tally, random, dx, dy)
+        compare_random(tally, random, dx, dy, compare)
     })
 }
 
 /// Sides of one to four by up to the longest side, both ways.
-pub fn thin_grids(tally: &mut Tally, random: &mut Random) -> u64 {
+pub fn thin_grids(tally: &mut Tally, random: &mut Random, compare: Compare) -> u64 {
     shapes::thin(random, |random, dx, dy| {
-        compare_random(tally, random, dx, dy)
+        compare_random(tally, random, dx, dy, compare)
     })
 }
 
 /// Columns about whole words of 64 samples, and rows about tiles of 66: a random grid and a flat one of each
 /// shape.
-pub fn words_and_tiles(tally: &mut Tally, random: &mut Random) -> u64 {
+pub fn words_and_tiles(tally: &mut Tally, random: &mut Random, compare: Compare) -> u64 {
     let mut grids = 0;
     for dx in [62, 63, 64, 65, 66, 127, 128, 129, 191, 192, 193, 256] {
         for dy in [1, 2, 65, 66, 67, 131, 132, 133, 198] {
-            grids += compare_random(tally, random, dx, dy);
+            grids += compare_random(tally, random, dx, dy, compare);
             let flat = flat_grid(random, dx, dy);
-            compare_grid(tally, random, &flat);
+            compare(tally, random, &flat);
             grids += 1;
         }
     }
@@ -63,9 +66,15 @@ pub fn words_and_tiles(tally: &mut Tally, random: &mut Random) -> u64 {
 }
 
 /// A random grid of this shape; returns 1.
-fn compare_random(tally: &mut Tally, random: &mut Random, dx: usize, dy: usize) -> u64 {
+fn compare_random(
+    tally: &mut Tally,
+    random: &mut Random,
+    dx: usize,
+    dy: usize,
+    compare: Compare,
+) -> u64 {
     let grid = random_grid(random, dx, dy);
-    compare_grid(tally, random, &grid);
+    compare(tally, random, &grid);
     1
 }
 
@@ -85,6 +94,6 @@ pub fn largest() -> Grid {
 }
 
 /// Every entry in every kind of room.
-fn compare_grid(tally: &mut Tally, random: &mut Random, grid: &Grid) -> Drawing {
-    compare_asked(tally, random, &Asked::new(Kind::Rings, grid))
+pub fn compare_grid(tally: &mut Tally, random: &mut Random, grid: &Grid) {
+    compare_asked(tally, random, &Asked::new(Kind::Rings, grid));
 }
