@@ -1,5 +1,6 @@
 //! Why nothing, or not all, was written.
 
+use crate::reader::Unread;
 use nigrulent::Refusal;
 use std::io;
 
@@ -19,6 +20,20 @@ impl From<String> for Failure {
 impl From<Refusal> for Failure {
     fn from(refusal: Refusal) -> Self {
         Failure::Said(refusal.to_string())
+    }
+}
+
+/// What is said where a stream has a fault: GDAL is not asked there.
+impl From<Unread> for Failure {
+    fn from(unread: Unread) -> Self {
+        Failure::Said(match unread {
+            Unread::Foreign(fault) => {
+                format!(
+                    "{fault}; --stream reads text alone, and what GDAL reads is drawn without it"
+                )
+            }
+            unread => unread.to_string(),
+        })
     }
 }
 

@@ -31,14 +31,19 @@ pub fn lines(text: &str) -> impl Iterator<Item = Line<'_>> {
     let fed = text.split('\n');
     let broken = fed.flat_map(|line| line.strip_suffix('\r').unwrap_or(line).split('\r'));
     let numbered = (1..).zip(broken);
-    numbered.map(|(number, text)| Line {
-        text,
-        number,
-        from: 0,
-    })
+    numbered.map(|(number, text)| Line::new(text, number))
 }
 
 impl<'a> Line<'a> {
+    /// The line of a number that has this text.
+    pub fn new(text: &'a str, number: usize) -> Self {
+        Line {
+            text,
+            number,
+            from: 0,
+        }
+    }
+
     /// The line up to a comment, which runs from a # to its end.
     pub fn before_comment(self) -> Self {
         let text = self.text.split('#').next().unwrap_or("");

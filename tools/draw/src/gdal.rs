@@ -1,6 +1,7 @@
 //! Files that are no text of ours, handed through GDAL's gdal_translate as an ASCII grid, where it is installed.
 
-use crate::terrain::{self, Terrain, Unread};
+use crate::reader::Unread;
+use crate::terrain::{self, Terrain};
 use std::io::{ErrorKind, Read};
 use std::path::Path;
 use std::process::{Child, Command, Stdio};

@@ -6,7 +6,7 @@ use crate::levels::Slice;
 use crate::options::{Figure, Options};
 use crate::shapes::{self, Line};
 use crate::terrain::Terrain;
-use nigrulent::{Placement, Point, Refusal, Regions, Vertex};
+use nigrulent::{Placement, Point, Record, Refusal, Regions, Vertex};
 use std::io::{self, Write};
 
 /// Writes one figure as a bare geometry, or all of them as a collection, a feature a line.
@@ -69,13 +69,7 @@ impl Writer<'_> {
 
     /// A figure with its heights, and what there is of it.
     fn feature(&self, out: &mut dyn Write, slice: Slice) -> Result<(), Failure> {
-        out.write_all(b"{\"type\":\"Feature\",\"properties\":{")?;
-        match slice {
-            Slice::Above(level) => write!(out, "\"value\":{}", number(level))?,
-            Slice::Between(low, high) => {
-                write!(out, "\"low\":{},\"high\":{}", number(low), number(high))?;
-            }
-        }
+        write_heights(out, slice)?;
         if let Figure::Lines { smooth } = self.figure {
             let lines = self.lines(slice, smooth)?;
             write!(out, ",\"lines\":{}}},\"geometry\":", lines.len())?;
@@ -102,6 +96,47 @@ impl Writer<'_> {
             self.terrain.placement.unwrap_or_default(),
         )
     }
+}
+
+/// Writes one bare ring as a feature of its own and ends the line: a closed line, with its number, and its area, below
+/// 0 for a hole.
+pub fn write_ring_feature(
+    out: &mut dyn Write,
+    ring: &Record,
+    slice: Slice,
+    placement: Option<Placement>,
+) -> Result<(), Failure> {
+    write_heights(out, slice)?;
+    let Placement { x_step, y_step, .. } = placement.unwrap_or_default();
+    let squares = nigrulent::area(ring.points)? as f64 / 8.0;
+    let area = number(squares * (x_step * y_step).abs());
+    write!(
+        out,
+        ",\"ring\":{},\"area\":{area}}},\"geometry\":",
+        ring.number
+    )?;
+    out.write_all(b"{\"type\":\"LineString\",\"coordinates\":")?;
+    match placement {
+        None => write_points(out, halves(ring.points))?,
+        Some(at) => write_points(out, halves(ring.points).map(|point| placed(at, point)))?,
+    }
+    Ok(out.write_all(b"}}\n")?)
+}
+
+/// The beginning of a feature, with the heights that it is drawn at.
+fn write_heights(out: &mut dyn Write, slice: Slice) -> io::Result<()> {
+    out.write_all(b"{\"type\":\"Feature\",\"properties\":{")?;
+    match slice {
+        Slice::Above(level) => write!(out, "\"value\":{}", number(level)),
+        Slice::Between(low, high) => {
+            write!(out, "\"low\":{},\"high\":{}", number(low), number(high))
+        }
+    }
+}
+
+/// The points of a ring in the units of columns and rows.
+fn halves(ring: &[Point]) -> impl DoubleEndedIterator<Item = Vertex> + '_ {
+    ring.iter().map(|point| point.map(|at| f64::from(at) / 2.0))
 }
 
 /// A number of JSON, which has none that is infinite: a band without a bound has null there.
@@ -148,15 +183,14 @@ fn write_ring(
     placement: Option<Placement>,
     counterclockwise: bool,
 ) -> Result<(), Failure> {
-    let halves = ring.iter().map(|point| point.map(|at| f64::from(at) / 2.0));
     let placement = match placement {
-        None => return Ok(write_points(out, halves)?),
+        None => return Ok(write_points(out, halves(ring))?),
         Some(placement) => placement,
     };
     // A ring of area above 0 runs clockwise where y grows upward, and a map that is turned over turns it over.
     let turned = placement.x_step * placement.y_step < 0.0;
     let runs_so = (nigrulent::area(ring)? < 0) != turned;
-    let points = halves.map(|point| placed(placement, point));
+    let points = halves(ring).map(|point| placed(placement, point));
     match runs_so == counterclockwise {
         true => write_points(out, points)?,
         false => write_points(out, points.rev())?,

@@ -1,6 +1,6 @@
 //! The header of an ESRI ASCII grid: words in any order, each with a value, as GDAL takes them.
 
-use crate::fields::{Fault, Field, Line};
+use crate::fields::{Fault, Field};
 use nigrulent::Placement;
 use std::num::IntErrorKind;
 
@@ -29,6 +29,45 @@ impl Side {
     }
 }
 
+/// A word of the header: its name in small letters, and where it stands.
+pub struct Word {
+    name: String,
+    text: String,
+    line: usize,
+    column: usize,
+}
+
+impl Word {
+    /// The word in a field, if it is one of a header.
+    pub fn of(field: &Field) -> Option<Self> {
+        const KNOWN: [&str; 10] = [
+            "ncols",
+            "nrows",
+            "xllcorner",
+            "xllcenter",
+            "yllcorner",
+            "yllcenter",
+            "cellsize",
+            "dx",
+            "dy",
+            "nodata_value",
+        ];
+        let name = field.text.to_lowercase();
+        let Fault { line, column, .. } = field.fault(String::new());
+        KNOWN.contains(&name.as_str()).then(|| Word {
+            name,
+            text: field.text.to_owned(),
+            line,
+            column,
+        })
+    }
+
+    /// What is said where the text ends behind the word.
+    pub fn without_value(&self) -> String {
+        format!("{} has no value", self.text)
+    }
+}
+
 /// The header words read so far.
 #[derive(Default)]
 pub struct Words {
@@ -42,27 +81,10 @@ pub struct Words {
     nodata: Option<f64>,
 }
 
-/// Whether a word is one of a header.
-pub fn is_word(text: &str) -> bool {
-    const KNOWN: [&str; 10] = [
-        "ncols",
-        "nrows",
-        "xllcorner",
-        "xllcenter",
-        "yllcorner",
-        "yllcenter",
-        "cellsize",
-        "dx",
-        "dy",
-        "nodata_value",
-    ];
-    KNOWN.contains(&text.to_lowercase().as_str())
-}
-
 impl Words {
     /// Takes a word of the header and its value.
-    pub fn take(&mut self, word: Field, value: Field) -> Result<(), Fault> {
-        match word.text.to_lowercase().as_str() {
+    pub fn take(&mut self, word: &Word, value: Field) -> Result<(), Fault> {
+        match word.name.as_str() {
             "ncols" => put(&mut self.ncols, word, whole(value)?),
             "nrows" => put(&mut self.nrows, word, whole(value)?),
             "xllcorner" => put(&mut self.x, word, Side::Corner(finite(value)?)),
@@ -76,10 +98,10 @@ impl Words {
         }
     }
 
-    /// The header, complete, before this line of numbers.
-    pub fn finish(&self, line: Line) -> Result<Header, Fault> {
+    /// The header, complete, before a line of numbers.
+    pub fn finish(&self, line: usize) -> Result<Header, Fault> {
         let missing = |word: &str| Fault {
-            line: line.number,
+            line,
             column: 1,
             what: format!("the header before this line has no {word}"),
         };
@@ -118,9 +140,13 @@ impl Words {
 }
 
 /// Notes the value of a header word that must not be there already.
-fn put<T>(place: &mut Option<T>, word: Field, value: T) -> Result<(), Fault> {
+fn put<T>(place: &mut Option<T>, word: &Word, value: T) -> Result<(), Fault> {
     match place.replace(value) {
-        Some(_) => Err(word.fault(format!("{} is given a second time", word.text))),
+        Some(_) => Err(Fault {
+            line: word.line,
+            column: word.column,
+            what: format!("{} is given a second time", word.text),
+        }),
         None => Ok(()),
     }
 }

@@ -18,8 +18,10 @@ mod options;
 mod paths;
 mod picture;
 mod png;
+mod reader;
 mod shapes;
 mod source;
+mod stream;
 mod terrain;
 mod words;
 
@@ -65,19 +67,34 @@ fn print(text: &str) -> Result<(), Failure> {
 fn draw(options: &Options) -> Result<(), Failure> {
     let name = source::name(&options.file);
     let of_file = |sentence: String| Failure::Said(format!("{name}: {sentence}"));
-    let mut terrain = source::read(&options.file).map_err(of_file)?;
-    terrain.placement = options.place.placement(terrain.placement);
-    terrain.check_placement().map_err(of_file)?;
-    let slices = options.wanted.slices(&terrain.values).map_err(of_file)?;
     let mut out = BufWriter::with_capacity(1 << 16, io::stdout().lock());
     let written = match options.form {
-        Form::GeoJson => geojson::write(&mut out, &terrain, &slices, options),
-        Form::Counts => counts::write(&mut out, &terrain, &slices, options),
-        Form::Svg => picture::write(&mut out, &terrain, &slices, options),
-        Form::Png => png::write(|out| picture::write(out, &terrain, &slices, options)),
+        Form::Stream => draw_stream(&mut out, options),
+        _ => draw_whole(&mut out, options),
     };
     match written {
         Err(Failure::Said(sentence)) => Err(of_file(sentence)),
         written => written.and_then(|()| Ok(out.flush()?)),
+    }
+}
+
+/// Rings while the terrain is read.
+fn draw_stream(out: &mut dyn Write, options: &Options) -> Result<(), Failure> {
+    // None of the heights goes by the samples: options sees to it.
+    let slices = options.wanted.slices(&[])?;
+    stream::write(out, &slices, options)
+}
+
+/// A figure of the whole terrain.
+fn draw_whole(out: &mut dyn Write, options: &Options) -> Result<(), Failure> {
+    let mut terrain = source::read(&options.file)?;
+    terrain.placement = options.place.placement(terrain.placement);
+    terrain::check_placement(terrain.dx, terrain.dy, terrain.placement)?;
+    let slices = options.wanted.slices(&terrain.values)?;
+    match options.form {
+        Form::Svg => picture::write(out, &terrain, &slices, options),
+        Form::Png => png::write(|out| picture::write(out, &terrain, &slices, options)),
+        Form::Counts => counts::write(out, &terrain, &slices, options),
+        Form::GeoJson | Form::Stream => geojson::write(out, &terrain, &slices, options),
     }
 }

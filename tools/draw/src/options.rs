@@ -44,6 +44,8 @@ pub enum Form {
     Svg,
     Png,
     Counts,
+    /// Each ring as it closes, while the file is read.
+    Stream,
 }
 
 /// Where figures stand, if not where the file says.
@@ -106,6 +108,8 @@ pub fn parse(words: impl IntoIterator<Item = OsString>) -> Result<Command, Strin
 /// The heights, one alone or two as a band, or all of them one by one.
 fn wanted(words: &Words, numbers: &[OsString]) -> Result<Wanted, String> {
     words.exclude("--levels", "--bands")?;
+    // Its multiples go by the lowest and the highest sample.
+    words.exclude("--stream", "--interval")?;
     let (levels, bands) = (words.has("--levels"), words.has("--bands"));
     if let Some(step) = words.number("--interval")? {
         return match (numbers, step > 0.0) {
@@ -166,6 +170,9 @@ fn heights(numbers: &[OsString], names: [&str; 2]) -> Result<Vec<f64>, String> {
 /// Contours and bands of the library are not smoothed.
 fn figure(words: &Words, bands: bool) -> Result<Figure, String> {
     words.exclude("--isobands", "--lines")?;
+    for name in ["--isobands", "--lines", "--smooth"] {
+        words.exclude("--stream", name)?;
+    }
     let (lines, smooth) = (words.has("--lines"), words.has("--smooth"));
     match (lines, smooth, words.has("--isobands")) {
         (true, smooth, _) => Ok(Figure::Lines { smooth }),
@@ -181,6 +188,7 @@ fn form(words: &Words) -> Result<Form, String> {
         ("--svg", Form::Svg),
         ("--png", Form::Png),
         ("--counts", Form::Counts),
+        ("--stream", Form::Stream),
     ];
     for (k, (name, _)) in forms.iter().enumerate() {
         for (other, _) in &forms[k + 1..] {

@@ -49,7 +49,7 @@ fn of_values<'a>(terrain: &Terrain, values: &'a [f64]) -> Result<nigrulent::Terr
 
 /// Values and a threshold that they reach exactly in the slice. Between two heights these are 1 inside and 0
 /// outside, so that a band is drawn as a contour is: no two of its rings share an edge.
-fn sheet(values: &[f64], slice: Slice) -> (Cow<'_, [f64]>, f64) {
+pub fn sheet(values: &[f64], slice: Slice) -> (Cow<'_, [f64]>, f64) {
     match slice {
         Slice::Above(level) => (Cow::Borrowed(values), level),
         Slice::Between(low, high) => {

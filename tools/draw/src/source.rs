@@ -2,13 +2,17 @@
 //! reads.
 
 use crate::gdal;
-use crate::terrain::{self, Terrain, Unread};
+use crate::reader::Unread;
+use crate::terrain::{self, Terrain};
 use std::fs::File;
-use std::io::{self, Read};
+use std::io::{self, BufRead, BufReader, Read};
 use std::path::Path;
 
 /// So many bytes of a file tell whether it is a text.
 const HEAD: u64 = 4096;
+
+/// So many bytes are read at a time, where the file is read part by part.
+const PART: usize = 1 << 16;
 
 /// A file's name for messages.
 pub fn name(file: &Path) -> String {
@@ -45,6 +49,15 @@ pub fn read(file: &Path) -> Result<Terrain, String> {
         Err(Unread::Foreign(fault)) => gdal::read(file).map_err(|why| format!("{fault}; {why}")),
         read => read.map_err(|unread| unread.to_string()),
     }
+}
+
+/// A file to be read part by part; or a sentence.
+pub fn open(file: &Path) -> Result<Box<dyn BufRead>, String> {
+    if is_standard_input(file) {
+        return Ok(Box::new(BufReader::new(io::stdin())));
+    }
+    let opened = File::open(file).map_err(|error| error.to_string())?;
+    Ok(Box::new(BufReader::with_capacity(PART, opened)))
 }
 
 fn is_standard_input(file: &Path) -> bool {

@@ -3,7 +3,7 @@
 use std::ffi::OsString;
 
 /// The options without a value.
-const FLAGS: [&str; 12] = [
+const FLAGS: [&str; 13] = [
     "--bands",
     "--counts",
     "--grid",
@@ -13,6 +13,7 @@ const FLAGS: [&str; 12] = [
     "--lines",
     "--png",
     "--smooth",
+    "--stream",
     "--svg",
     "--version",
     "-h",
