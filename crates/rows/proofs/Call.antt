@@ -2,31 +2,28 @@
 -- was; and where it is taken, it gives out the rings that close in its row, and state and tables stand one row further. Assumes nothing.
 use mathlib.Core.Path.{_≡_, refl, sym, _∙_, ap, ap₂, subst}
 use mathlib.Core.Bool.{Bool, true, false, cond, false≢true}
-use mathlib.Core.List.{List, [], _∷_, _++_}
+use mathlib.Core.List.{List, [], _∷_}
 use Prim.Native.Nat.{ℕ, zero, suc, _+_, _-_, _*_, _/_, _^_, _≤_, _<_, max}
-use native.Mathlib.Nat.{zero-add}
 use native.Mathlib.Numerals.{add-one}
 use native.Mathlib.Decide.{decLt}
 use native.Mathlib.Omega.{arith}
 use lib.Dec.{eqb, ltb}
 use lib.ListN.{length, getD, drop, length-drop}
 use lib.Seq.{getD-drop, drop-drop}
-use borrow.Author.Tests.{ltb-true, ltb-false, lt-ltb, le-ltb, eq-eqb, ne-eqb}
-use Rattle.error.specs.declared.Refusal.{Refusal}
-use Rattle.error.specs.declared.Refusal.the-variants.{OpenShort, LinksShort, PointsShort, DirectoryShort}
+use borrow.Author.Tests.{lt-ltb, le-ltb, eq-eqb, ne-eqb}
 use Rattle.scope.specs.Limits.{sideLimit, recordStride}
 use Rattle.scope.specs.Terrain.{Sheet}
 use Rattle.scope.specs.Room.{openWords, linkWords, directoryWords}
 use Rattle.scope.specs.Cells.{cellNumber}
-use Rattle.scope.specs.Stitching.{Line, Drawing, nothing, stitchAll}
-use Rattle.scope.specs.Drawing.{along, segmentsAfter, drawingAfter, openAfter, ringsAfter}
+use Rattle.scope.specs.Stitching.{Line, Drawing, nothing}
+use Rattle.scope.specs.Drawing.{segmentsAfter, drawingAfter, openAfter, ringsAfter}
 use Rattle.scope.specs.Tables.{written, packedPoints, bareRecords}
 use Rattle.laws.proofs.Total.{total, total-append}
 use Rattle.laws.proofs.Edges.{Outside}
 use Rattle.laws.proofs.Sizes.{size, heldIn, held-or-closed, lines-at-most}
 use Rattle.laws.proofs.Borders.{first-cell-keeps-lines}
-use Rattle.laws.proofs.LineWords.{Apt, Spread, spread-after}
-use Rattle.laws.proofs.Stored.{stored, stored-length, stored-past, stored-drop}
+use Rattle.laws.proofs.LineWords.{Spread, spread-after}
+use Rattle.laws.proofs.Stored.{stored-length, stored-drop}
 use Rattle.scan.specs.Rows as scan
 use Rattle.scan.proofs.Steps.{segments-are-few}
 use Rattle.machine.proofs.Leaving.{all}
@@ -36,30 +33,28 @@ use Rattle.packing.proofs.Laws.{clearing-keeps-the-length, the-rest-stays}
 use Rattle.sweep.specs.Sweep.{sampleIn, between, rowCells}
 use Rattle.sweep.proofs.Rows.{upper-kept, lower-kept}
 use Rattle.cells.specs.declared.Level.{Level}
-use Rattle.isoringbuilder.specs.Verdict.{Verdict, refused, passes}
-use Rattle.isoringbuilder.specs.declared.Built.{Built}
+use Rattle.isoringbuilder.specs.Verdict.{refused}
 use Rattle.isoringbuilder.specs.declared.Built.the-variants as built-is
 use Rattle.trying.specs.Notes.{frontierNoted}
 use Rattle.trying.specs.Trying.{Tried, rowTried}
 use Rattle.trying.specs.declared.Trial.{Trial}
 use Rattle.trying.proofs.Kept.{highest}
 use Rattle.trying.proofs.Notes.{Right}
-use Rattle.trying.proofs.Strokes.{Known}
-use Rattle.trying.proofs.Rows.{CountedAfter, NotedAfter, sheetTried}
+use Rattle.trying.proofs.Rows.{CountedAfter, NotedAfter}
 use Rattle.trying.proofs.Laws.{RowCounted, beginning, row-begins, row-is, row-tried-counts, first-row-tried-counts}
 use Rattle.trying.proofs.Low.{Low, Same, same-row}
-use Rattle.trying.proofs.Renoted.{noteBy, past-cleared, frontier-noted, all-noted, found-again, frontier-low}
-use Rattle.giving.specs.Giving.{Given, rowGiven, slotsFiled}
+use Rattle.trying.proofs.Renoted.{noteBy, frontier-noted, all-noted, found-again, frontier-low}
+use Rattle.giving.specs.Giving.{Given}
 use Rattle.giving.proofs.Most.{mostOf, most-of-none, most-of-more, most-is-no-less, most-alike}
 use Rattle.giving.proofs.Outputs.{points-written, records-written}
-use Rattle.giving.proofs.RowHolds.{Setting, RowHolds}
-use Rattle.giving.proofs.RowFiled.{none, filedIn, columns-between-rows}
+use Rattle.giving.proofs.RowHolds.{RowHolds}
+use Rattle.giving.proofs.RowFiled.{none, columns-between-rows}
 use Rattle.giving.proofs.RowCalls.{settingOf, resumed, resumed-holds, given-are, call-holds, call-follows}
-use Rattle.rows.specs.Called.{Outcome, trialBefore, tried, linesTried, answerBy, filed, played, stateAfter, taken, refusedBy, linesRestored, settled, advanced}
-use Rattle.rows.specs.Turns.{segmentsIn, pointsIn, callPeak, callHeld, callRings, callVerdict, callAnswer, peakTo, heldTo}
+use Rattle.rows.specs.Called.{trialBefore, tried, linesTried, filed, played, stateAfter, taken, linesRestored}
+use Rattle.rows.specs.Turns.{segmentsIn, pointsIn, callPeak, callHeld, callRings, peakTo, heldTo}
 use Rattle.rows.specs.declared.Rows.{Rows}
 use Rattle.rows.proofs.Together.{row-over, rings-since}
-use Rattle.rows.proofs.Standing.{stateOf, frontierOf, Standing, some-row}
+use Rattle.rows.proofs.Standing.{stateOf, frontierOf, Standing}
 
 -- ---- the measures of document 02 by the names that the laws have for them
 

@@ -1,14 +1,14 @@
 -- The words of a row as the calls make them: those of a row of values are the grid's own row, and those of the outside are no samples at all. Assumes nothing.
-use mathlib.Core.Path.{_≡_, refl, sym, _∙_, ap, ap₂}
-use mathlib.Core.Bool.{Bool, true, false, _&&_}
-use mathlib.Core.List.{List, [], _∷_}
+use mathlib.Core.Path.{_≡_, refl, sym, _∙_, ap}
+use mathlib.Core.Bool.{Bool, false, _&&_}
+use mathlib.Core.List.{List}
 use Prim.Native.Nat.{ℕ, zero, suc, _+_, _-_, _*_, _≤_, _<_}
 use native.Mathlib.Nat.{zero-mul, zero-add}
 use native.Mathlib.Decide.{decLt}
 use native.Mathlib.Omega.{arith}
 use lib.Dec.{ltb}
 use lib.Ieee.{Float, nan}
-use lib.ListN.{length, getD, take, drop}
+use lib.ListN.{length, getD, drop}
 use lib.Seq.{getD-take, getD-drop}
 use borrow.Author.Tests.{lt-ltb, le-ltb}
 use Rattle.scope.specs.Limits.{sideLimit}
@@ -21,17 +21,7 @@ use Rattle.scan.proofs.Samples.{terrain-outside}
 use Rattle.cells.specs.declared.Level.{Level}
 use Rattle.rows.specs.Called.{wordsFrom, rowWords, noWords}
 use Rattle.rows.specs.Turns.{valuesOfRow}
-
-words-long : (B : Sheet) (t w n : ℕ) → length (wordsFrom B t w n) ≡ n
-unfolding wordsFrom
-words-long B t w zero = refl
-words-long B t w (suc n) = ap suc (words-long B t (suc w) n)
-
-word-at : (B : Sheet) (t w n i : ℕ) → i < n → getD (wordsFrom B t w n) i 0 ≡ wordFrom B t (64 * (w + i))
-unfolding wordsFrom
-word-at B t w zero i h = absurd (omega arith)
-word-at B t w (suc n) zero h = ap (wordFrom B t) (omega arith)
-word-at B t w (suc n) (suc i) h = word-at B t (suc w) n i (omega arith) ∙ ap (wordFrom B t) (omega arith)
+use Rattle.rows.proofs.Samples.{words-count, word-there}
 
 word-past : (B : Sheet) (t w n i : ℕ) → n ≤ i → getD (wordsFrom B t w n) i 0 ≡ 0
 unfolding wordsFrom
@@ -42,11 +32,11 @@ word-past B t w (suc n) (suc i) h = word-past B t (suc w) n i (omega arith)
 -- sixty-five words of a row that agrees with row s of a sheet
 kept-by : (A B : Sheet) (dx s t : ℕ) → dx ≤ sideLimit → ((x : ℕ) → dx < x → A x s ≡ false) → ((x : ℕ) → B (suc x) t ≡ A (suc x) s) → Kept A s (wordsFrom B t 0 65)
 unfolding wordFrom sideLimit
-kept-by A B dx s t narrow outside same = record { row-size = words-long B t 0 65; kept = λ w. by w (decLt w 65) }
+kept-by A B dx s t narrow outside same = record { row-size = words-count B t 0 65; kept = λ w. by w (decLt w 65) }
   where
     by : (w : ℕ) → Dec (w < 65) → getD (wordsFrom B t 0 65) w 0 ≡ wordFrom A s (64 * w)
     by w (yes h) =
-        word-at B t 0 65 w h ∙ ap (λ (i : ℕ). wordFrom B t (64 * i)) (zero-add w)
+        word-there B t 0 65 w h ∙ ap (λ (i : ℕ). wordFrom B t (64 * i)) (zero-add w)
         ∙ packed-alike (λ j. B (suc (64 * w + j)) t) (λ j. A (suc (64 * w + j)) s) 64 (λ j l. same (64 * w + j))
     by w (no h) =
         word-past B t 0 65 w (omega arith)

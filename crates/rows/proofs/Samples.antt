@@ -19,12 +19,12 @@ unfolding noWords wordsFrom wordFrom packed
 no-words = refl
 
 module _ (A : Sheet) (s : ℕ) where
-  words-count : (w n : ℕ) → length (wordsFrom A s w n) ≡ n
+  pub words-count : (w n : ℕ) → length (wordsFrom A s w n) ≡ n
   unfolding wordsFrom
   words-count w zero = refl
   words-count w (suc n) = ap suc (words-count (suc w) n)
 
-  word-there : (w n i : ℕ) → i < n → getD (wordsFrom A s w n) i 0 ≡ wordFrom A s (64 * (w + i))
+  pub word-there : (w n i : ℕ) → i < n → getD (wordsFrom A s w n) i 0 ≡ wordFrom A s (64 * (w + i))
   unfolding wordsFrom
   word-there w zero i l = absurd (omega arith)
   word-there w (suc n) zero l = ap (λ (k : ℕ). wordFrom A s (64 * k)) (omega arith)

@@ -1,17 +1,16 @@
 -- How the state and the work tables stand between two calls: the row machine holds the drawing of the rows so far in the slots and the links, the frontier's words note
 -- its lines, and the state has the counts and the samples of the last row. It holds before the first row over any tables, and in longer tables. Assumes nothing.
-use mathlib.Core.Path.{_≡_, refl, sym, _∙_, ap, subst}
+use mathlib.Core.Path.{_≡_, refl, sym, _∙_, ap}
 use mathlib.Core.List.{List, [], _++_}
 use Prim.Native.Nat.{ℕ, zero, suc, _+_, _*_, _^_, _≤_, _<_}
 use native.Mathlib.Omega.{arith}
 use lib.ListN.{length, getD, replicate, length-append, length-replicate, List·getD-append}
-use Rattle.scope.specs.Limits.{sideLimit}
 use Rattle.scope.specs.Terrain.{Sheet}
 use Rattle.scope.specs.Room.{openWords}
 use Rattle.scope.specs.Stitching.{Line, nothing, stitchAll}
 use Rattle.scope.specs.Drawing.{along, down, upTo, segmentsAfter, drawingAfter}
 use Rattle.laws.proofs.Edges.{Outside}
-use Rattle.laws.proofs.LineWords.{Apt, spread-after}
+use Rattle.laws.proofs.LineWords.{spread-after}
 use Rattle.laws.proofs.Stored.{stored}
 use Rattle.scan.specs.Rows as scan
 use Rattle.machine.proofs.Steps.{Kept}
@@ -20,7 +19,7 @@ use Rattle.packing.specs.Cleared.{cleared}
 use Rattle.cells.specs.declared.Level.{Level}
 use Rattle.trying.proofs.Renoted.{noteBy, found-longer}
 use Rattle.giving.specs.Giving.{Given}
-use Rattle.giving.proofs.RowHolds.{Setting, RowHolds}
+use Rattle.giving.proofs.RowHolds.{RowHolds}
 use Rattle.giving.proofs.RowCalls.{nothing-holds}
 use Rattle.rows.specs.Called.{noWords}
 use Rattle.rows.specs.Turns.{peakTo, heldTo}

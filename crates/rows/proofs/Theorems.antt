@@ -1,15 +1,14 @@
 -- Document 02's first request, for every grid and every way in which the rooms vary from call to call: each call is decided exactly as it says, is taken whole or
 -- refused whole, and all calls together give the rings of the whole grid. Assumes nothing.
 use mathlib.Core.Path.{_≡_, refl, sym, _∙_, ap, subst}
-use mathlib.Core.Bool.{Bool, true, false, cond, not, _||_}
-use mathlib.Core.List.{List, [], _∷_, _++_}
-use Prim.Native.Nat.{ℕ, zero, suc, _+_, _-_, _*_, _/_, _≤_, _<_, max}
+use mathlib.Core.Bool.{false, not}
+use mathlib.Core.List.{List, [], _++_}
+use Prim.Native.Nat.{ℕ, zero, suc, _+_, _-_, _*_, _/_, _≤_, _<_}
 use native.Mathlib.Nat.{suc-mul, mul-comm, mul-le-mul-right}
 use native.Mathlib.Decide.{decLt}
 use native.Mathlib.Omega.{arith}
-use lib.Dec.{eqb, ltb}
 use lib.Ieee.{Float}
-use lib.ListN.{length, take, drop, length-take, length-drop}
+use lib.ListN.{length, drop, length-take, length-drop}
 use borrow.Author.Tests.{lt-ltb, le-ltb, eq-eqb, ne-eqb}
 use Rattle.error.specs.declared.Refusal.{Refusal}
 use Rattle.error.specs.declared.Refusal.the-variants.{BadRow, BadTurn}
@@ -22,7 +21,7 @@ use Rattle.scope.specs.Tables.{zeroed, written, packedPoints, bareRecords}
 use Rattle.laws.proofs.Edges.{Outside}
 use Rattle.laws.proofs.Peak.{peak-is-reached}
 use Rattle.laws.proofs.Laws.{the-peak-is-low, open-lines-are-no-more, no-line-is-left}
-use Rattle.grid.specs.Grid.{badSide, Sized}
+use Rattle.grid.specs.Grid.{badSide}
 use Rattle.scan.proofs.Samples.{terrain-outside}
 use Rattle.packing.specs.Cleared.{cleared}
 use Rattle.packing.proofs.Laws.{cleared-is-zeroed}
@@ -219,7 +218,7 @@ module _ (values : List Float) (level : Level) (dx dy : ℕ) (some-columns : 1 �
         directory-is = gives .directory-is;
         lines-are =
             ap (λ (x : Rows). cleared (o .lines) (openWords (x .dx) (x .peak))) (next .is)
-            ∙ cleared-is-zeroed (openWords dx (peakTo A dx (suc dy))) lines (o .lines) (next .used-inside (omega arith)) (behind (openWords dx (callPeak A dx dy)) _ _ _ raised (gives .lines-stay));
+            ∙ cleared-is-zeroed (openWords dx (peakTo A dx (suc dy))) lines (o .lines) (next .used-inside (omega arith)) (drop-further (openWords dx (callPeak A dx dy)) (openWords dx (peakTo A dx (suc dy))) (o .lines) lines raised (gives .lines-stay));
         links-are =
             ap (λ (x : Rows). cleared (o .links) (linkWords (x .fresh))) (next .is)
             ∙ ap (λ (n : ℕ). cleared (o .links) (linkWords n)) (next .fresh-is)
@@ -234,9 +233,6 @@ module _ (values : List Float) (level : Level) (dx dy : ℕ) (some-columns : 1 �
 
       raised : openWords dx (callPeak A dx dy) ≤ openWords dx (peakTo A dx (suc dy))
       raised = unfold openWords in omega (arith, call-within A dx (suc dy) dy (omega arith))
-
-      behind : (n m : ℕ) (xs ys : List ℕ) → n ≤ m → drop n xs ≡ drop n ys → drop m xs ≡ drop m ys
-      behind = drop-further
 
   -- a call is handed tables that begin with the words that the call before it left
   module _ (r : ℕ) (s : Rows) (lines links : List ℕ) (before : Taken values level dx dy r s lines links) (more more′ points directory : List ℕ) where

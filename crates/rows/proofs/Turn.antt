@@ -2,7 +2,7 @@
 use mathlib.Core.Path.{_≡_, refl, sym, _∙_, ap, subst}
 use mathlib.Core.Bool.{Bool, true, false, cond}
 use mathlib.Core.List.{List}
-use Prim.Native.Nat.{ℕ, zero, suc, _+_, _*_, _/_, _≤_, _<_}
+use Prim.Native.Nat.{ℕ, suc, _+_, _*_, _/_, _≤_}
 use native.Mathlib.Omega.{arith}
 use lib.Dec.{ltb}
 use lib.ListN.{length, drop}
@@ -27,7 +27,7 @@ use Rattle.rows.specs.Called.{Outcome, tried, linesTried, answerBy, take
 use Rattle.rows.specs.Turns.{pointsIn, callPeak, callHeld, callRings, callVerdict, peakTo, heldTo}
 use Rattle.rows.specs.declared.Rows.{Rows}
 use Rattle.rows.proofs.Standing.{stateOf, Standing}
-use Rattle.rows.proofs.Call.{fourth, peak-most, peak-is, most-is, rings-is, points-is, restored, lines-counted, lines-past, links-past, stands, points-out, directory-out}
+use Rattle.rows.proofs.Call.{fourth, peak-most, peak-is, most-is, rings-is, points-is, restored, lines-past, links-past, stands, points-out, directory-out}
 
 -- a call that is taken: the rings that close in row r are given out, state and tables stand one row further, and words past the need stay
 pub record Gives (A : Sheet) (level : Level) (dx dy r : ℕ) (lines links points directory : List ℕ) (o : Outcome) : Type 0 where

@@ -13,7 +13,6 @@ use Rattle.scope.specs.Stitching.{Line}
 use Rattle.scope.specs.Drawing.{along, openAfter, ringsAfter}
 use Rattle.scope.specs.Room.{openWords, linkWords, directoryWords}
 use Rattle.cells.specs.declared.Level.{Level}
-use Rattle.isoringbuilder.specs.declared.Built.{Built}
 use Rattle.isoringbuilder.specs.declared.Built.the-variants as built-is
 use Rattle.isoringbuilder.specs.Verdict.{Verdict, refused, passes}
 use Rattle.rows.specs.Called.{begunState, rowCalled}
@@ -50,11 +49,6 @@ module _ (A : Sheet) (dx r : ℕ) where
       (cond (ltb links (linkWords callHeld)) (refused LinksShort)
       (cond (ltb points (2 * pointsIn callRings)) (refused PointsShort)
       (cond (ltb directory (directoryWords (length callRings))) (refused DirectoryShort) passes)))
-
-  -- what it answers then
-  unfoldable pub callAnswer : Verdict → Built
-  callAnswer (refused why) = built-is.Refused why
-  callAnswer passes = built-is.Rings (length callRings)
 
 -- the first n calls together: their rings, one call's behind another's, and the most that they come to
 unfoldable pub allRings : Sheet → ℕ → ℕ → List Line
