@@ -32,6 +32,8 @@ pub enum Refusal {
     BadRow,
     // a row after the last, an end before it, or a second end
     BadTurn,
+    // a ring or a vertex whose number is not in the tables, or a vertex midway in no sample pair that has a sample in the grid
+    NotThere,
 }
 
 // The refusal's number in document 01.
@@ -53,5 +55,6 @@ pub fn number(refusal: Refusal) -> u32
         Refusal::BadText => 12,
         Refusal::BadRow => 13,
         Refusal::BadTurn => 14,
+        Refusal::NotThere => 15,
     }
 }
