@@ -11,6 +11,7 @@ use Rattle.scope.specs.Band.{sortKey}
 use Rattle.extents.specs.Records.{recordFirst, recordCount, recordRing}
 use Rattle.noting.specs.Noted.{Measurable, HighNoted}
 use Rattle.noting.specs.Step.{RecordMeasurable, highPut}
+use Rattle.noting.proofs.Rings.{ring-low}
 
 -- the first r records hold the high parts of their keys
 pub record HighWalked (points start : List ℕ) (n : ℕ) (directory : List ℕ) (r : ℕ) : Type 0 where
@@ -51,7 +52,7 @@ module _ {points start : List ℕ} {n : ℕ} {directory : List ℕ} {r : ℕ} (w
                 some = m .counts-within r more .0;
                 not-many = m .counts-within r more .1;
                 points-there = m .points-there r more;
-                coordinates-within = m .coordinates-within r more;
+                low = ring-low points (recordFirst start r) (recordCount start r) (m .points-there r more) (m .coordinates-within r more);
               });
         }
 

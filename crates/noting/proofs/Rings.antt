@@ -10,6 +10,7 @@ use lib.Seq.{drop-cons, length-take-le}
 use borrow.Author.Tests.{ne-eqb, le-ltb}
 use Rattle.scope.specs.Limits.{coordinateLimit, pointLimit}
 use Rattle.scope.specs.Area.{points, anyAbove, faultyWords, areaRefused}
+use Rattle.scope.specs.GeoJson.{wordsIn}
 use Rattle.extents.specs.Points.{pointIn, ringIn}
 use Rattle.noting.specs.Step.{RingWithin}
 
@@ -41,9 +42,15 @@ part-length : (words : List ℕ) (first count : ℕ) → 2 * (first + count) ≤
 part-length words first count h =
     length-take-le (2 * count) (drop (2 * first) words) (omega (arith, length-drop (2 * first) words))
 
+-- the words of a ring, where no word up to its end is above the limit
+pub ring-low : (words : List ℕ) (first count : ℕ) → 2 * (first + count) ≤ length words → ((i : ℕ) → i < 2 * (first + count) → getD words i 0 ≤ coordinateLimit)
+    → anyAbove coordinateLimit (wordsIn words first count) ≡ false
+unfolding wordsIn
+ring-low words first count h within = none-above coordinateLimit words (2 * first) (2 * count) (omega arith) (λ i l. within i (omega arith))
+
 -- the words of a ring within the limits are not refused
 pub ring-accepted : {words : List ℕ} {first count : ℕ} → RingWithin words first count → areaRefused (take (2 * count) (drop (2 * first) words)) ≡ false
-unfolding areaRefused faultyWords
+unfolding areaRefused faultyWords wordsIn
 ring-accepted {words} {first} {count} w =
     rw (
       part-length words first count (w .points-there),
@@ -51,4 +58,4 @@ ring-accepted {words} {first} {count} w =
       ne-eqb (2 * count % 2) 1 (λ e. omega arith),
       le-ltb pointLimit (2 * count / 2) (omega arith),
     )
-    (none-above coordinateLimit words (2 * first) (2 * count) (omega arith) (λ i l. w .coordinates-within i (omega arith)))
+    (w .low)

@@ -15,6 +15,7 @@ use Rattle.extents.specs.Points.{ringIn}
 use Rattle.extents.specs.Records.{recordCount}
 use Rattle.noting.specs.Noted.{startOf, countedRing, noteOf, Countable, Noted}
 use Rattle.noting.specs.Step.{RecordNotable, recordNoted, NotedOne}
+use Rattle.noting.proofs.Rings.{ring-low}
 
 -- ---- where rings begin
 
@@ -130,7 +131,7 @@ module _ {points start : List ℕ} {n : ℕ} {bySize : Bool} {directory : List �
                 some = c .counts-within r more .0;
                 not-many = c .counts-within r more .1;
                 points-there = omega arith;
-                coordinates-within = λ i h. c .coordinates-within i (omega arith);
+                low = ring-low points (startOf start r) (recordCount start r) (omega arith) (λ i h. c .coordinates-within i (omega arith));
               });
         })
 

@@ -1,11 +1,13 @@
 -- One ring, noted: what is asked of its words and of its record, and what the record's words become. Assumes nothing.
 use mathlib.Core.Path.{_≡_}
-use mathlib.Core.Bool.{Bool}
+use mathlib.Core.Bool.{Bool, false}
 use mathlib.Core.List.{List}
 use Prim.Native.Nat.{ℕ, _+_, _*_, _/_, _^_, _≤_, _<_}
-use lib.ListN.{length, getD, set}
+use lib.ListN.{length, set}
 use Rattle.scope.specs.Limits.{coordinateLimit, pointLimit}
+use Rattle.scope.specs.Area.{anyAbove}
 use Rattle.scope.specs.Band.{sortKey}
+use Rattle.scope.specs.GeoJson.{wordsIn}
 use Rattle.extents.specs.Points.{ringIn}
 use Rattle.extents.specs.Records.{recordFirst, recordCount, recordRing}
 use Rattle.noting.specs.Noted.{noteOf}
@@ -15,7 +17,7 @@ pub record RingWithin (points : List ℕ) (first count : ℕ) : Type 0 where
   pub some : 1 ≤ count
   pub not-many : count ≤ pointLimit
   pub points-there : 2 * (first + count) ≤ length points
-  pub coordinates-within : (i : ℕ) → i < 2 * (first + count) → getD points i 0 ≤ coordinateLimit
+  pub low : anyAbove coordinateLimit (wordsIn points first count) ≡ false
 
 -- record r is there, with the count of a ring whose points begin at point `first`
 pub record RecordNotable (points directory : List ℕ) (r first : ℕ) : Type 0 where

@@ -12,7 +12,7 @@ ghost use Rattle.noting.specs.Noted.{Countable, Noted, Measurable, HighN
 ghost use Rattle.noting.specs.Step.{RingWithin, RecordNotable, NotedOne, RecordMeasurable, highPut};
 
 // Whether a ring of this area is a polygon.
-fn is_polygon(area: i64) -> bool
+pub fn is_polygon(area: i64) -> bool
     ensures { λ r. ⌜ r ≡ positive area ⌝ }
 {
     0 < area
@@ -30,7 +30,7 @@ fn size_of(area: i64) -> u64
 }
 
 // The area of the ring of `count` points from point `first` on.
-fn area_at(points: &[u16], first: usize, count: usize) -> i64
+pub fn area_at(points: &[u16], first: usize, count: usize) -> i64
     requires { ⌜ RingWithin (now points) first count ⌝ }
     ensures { λ r. ⌜ r ≡ area (ringIn (now (points .entry)) first count) ⌝ }
 {

@@ -8,28 +8,30 @@ use Prim.Native.Nat.{ℕ, _+_, _*_, _<_, _≤_}
 use lib.ListN.{length}
 use borrow.Author.Tests.{ltb-true, ltb-false, eqb-true, eq-eqb, not-false}
 use Rattle.scope.specs.Limits.{coordinateLimit, recordStride, pointLimit, noOwner}
-use Rattle.scope.specs.Area.{anyAbove}
+use Rattle.scope.specs.Area.{points, anyAbove}
 use Rattle.scope.specs.Room.{directoryWords}
-use Rattle.scope.specs.GeoJson.{firstAt, countAt, classAt, ownerAt, wordsIn, ringWordsAt, ringAt, directoryShort, rangeOutside, countOut, coordinateOver, classOut, isPolygon, isHole, ownedByAnother, ownedByNone, recordRefused, ringSetRefused}
+use Rattle.scope.specs.GeoJson.{firstAt, countAt, classAt, ownerAt, wordsIn, ringWordsAt, ringAt, unclosed, directoryShort, rangeOutside, countOut, coordinateOver, classOut, isPolygon, isHole, ownedByAnother, ownedByNone, recordRefused, ringSetRefused}
 use Rattle.laws.proofs.Tests.{neither}
 use Rattle.ringset.specs.declared.Record.{Record}
 use Rattle.ringset.specs.OneRecord.{recordAt, shapeRefused}
 use Rattle.ringset.proofs.Below.{none-below}
 
--- a record whose ring is not refused: its range lies within the points, it has 4 points or more and not too many, no coordinate is above the limit, and it is
--- a polygon or a hole
+-- a record whose ring is not refused: its range lies within the points, it has 4 points or more and not too many, no coordinate is above the limit, its last
+-- point is the first, and it is a polygon or a hole
 pub record SoundShape (ps : List ℕ) (r : Record) : Type 0 where
   pub within : 2 * (r .first + r .count) ≤ length ps
   pub four : 4 ≤ r .count
   pub few : r .count ≤ pointLimit
   pub low : anyAbove coordinateLimit (wordsIn ps (r .first) (r .count)) ≡ false
+  pub closed : unclosed (points (wordsIn ps (r .first) (r .count))) ≡ false
   pub classed : r .class ≤ 1
 
 pub sound-shape : (ps : List ℕ) (r : Record) → shapeRefused ps r ≡ false → SoundShape ps r
 unfolding shapeRefused
 sound-shape ps r e =
     let class = neither _ _ e in
-    let walked = neither _ _ (neither _ _ (class .0) .0) in
+    let ended = neither _ _ (class .0) in
+    let walked = neither _ _ (ended .0) in
     let range = neither _ _ (walked .0) in
     let count = neither _ _ (range .1) in
     record {
@@ -37,6 +39,7 @@ sound-shape ps r e =
       four = ltb-false _ _ (count .0);
       few = ltb-false _ _ (count .1);
       low = walked .1;
+      closed = ended .1;
       classed = ltb-false _ _ (class .1);
     }
 

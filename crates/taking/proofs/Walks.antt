@@ -99,7 +99,7 @@ pub along-end : {points : List ℕ} {from to : ℕ} {p : Point} {start : Bool} {
 along-end s h = s .left ∙ walk-end _ _ _ _ _ h
 
 -- the last point of a ring
-last-in : (points : List ℕ) (k n : ℕ) → lastOf (pointIn points k) (ringIn points (suc k) n) ≡ pointIn points (k + n)
+pub last-in : (points : List ℕ) (k n : ℕ) → lastOf (pointIn points k) (ringIn points (suc k) n) ≡ pointIn points (k + n)
 unfolding lastOf ringIn
 last-in points k zero = rw add-zero
 last-in points k (suc n) = last-in points (suc k) n ∙ ap (λ m. pointIn points m) (omega arith)

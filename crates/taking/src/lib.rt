@@ -15,7 +15,7 @@ ghost use Rattle.taking.specs.Places.{placeOf, walkTo, beside};
 ghost use Rattle.taking.specs.Stretches.{StretchThere, PassedOver, firstItems, StopsAt};
 
 // Where a point lies to a ring, or to some of its pairs.
-enum Place {
+pub enum Place {
     // on no pair, and inside by the sign
     Inside,
     // on a pair
@@ -33,7 +33,7 @@ fn beside(ay: u16, by: u16, y: u16) -> bool
 
 // The point (x, y) against the pairs of neighbours from the point of number `from` to that of number `to`, with the sign `inside` so far. A pair beside the
 // point's row is passed over.
-fn along(points: &[u16], from: usize, to: usize, x: u16, y: u16, inside: bool) -> Place
+pub fn along(points: &[u16], from: usize, to: usize, x: u16, y: u16, inside: bool) -> Place
     requires { ⌜ (from ≤ to) × (2 * to + 2 ≤ length (now points)) ⌝ }
     ensures { λ r. ⌜ r ≡ placeOf (walkTo (now (points .entry)) from to (record { x = x; y = y }) inside) ⌝ }
 {
