@@ -5,6 +5,7 @@ ghost use mathlib.Core.Path.{_≡_};
 ghost use mathlib.Core.Bool.{cond};
 ghost use Prim.Native.Nat.{_-_};
 ghost use Rattle.scope.specs.Smoothing.{moved, sampleAt, moves, realOf, placing, placedAt, lineVertex};
+ghost use Rattle.smoothing.specs.Coordinates.{fraction, movedBy, coordinateMoves, vertexMoves};
 ghost use Rattle.smoothing.specs.Values.{placingOf, vertexOf};
 
 // Where a line is to stand: the place of the point (0, 0), and how far apart neighbouring columns and rows are.
@@ -19,6 +20,22 @@ pub struct Placement {
 pub struct Vertex {
     pub x: f64,
     pub y: f64,
+}
+
+// What smoothing does to a coordinate.
+pub enum Coordinate {
+    // it is a half, or no less than the side, or 0, and stays
+    Stayed,
+    // x becomes x + fraction - 0.5, by this fraction
+    Moved(f64),
+    // the fraction is not a number, and what the coordinate becomes is none either
+    NotANumber,
+}
+
+// What smoothing does to a vertex.
+pub struct VertexMoves {
+    pub x: Coordinate,
+    pub y: Coordinate,
 }
 
 // The real coordinate of a doubled one.
@@ -146,5 +163,64 @@ pub fn line_vertex(
                 y: real_of(point.y),
             },
         )
+    }
+}
+
+// How far the threshold lies on the way from one sample to the next.
+fn fraction(threshold: f64, v0: f64, v1: f64) -> f64
+    ensures { λ r. ⌜ r ≡ fraction threshold v0 v1 ⌝ }
+{
+    (threshold - v0) / (v1 - v0)
+}
+
+// A coordinate that moves by a fraction, if that is a number.
+fn moved_by(fraction: f64) -> Coordinate
+    ensures { λ r. ⌜ r ≡ movedBy fraction ⌝ }
+{
+    if fraction != fraction {
+        return Coordinate::NotANumber;
+    }
+    Coordinate::Moved(fraction)
+}
+
+// What smoothing does to a doubled coordinate: where it moves it lies between the sample at `from` and the one at `to`.
+fn coordinate_moves(
+    values: &[f64],
+    level: Level,
+    dx: u32,
+    side: u32,
+    doubled: u32,
+    from: Point,
+    to: Point,
+) -> Coordinate
+    ensures { λ r. ⌜ r ≡ coordinateMoves side doubled (fraction (level .threshold) (sampleAt (now (values .entry)) dx (from .x) (from .y)) (sampleAt (now (values .entry)) dx (to .x) (to .y))) ⌝ }
+{
+    if moves(side, doubled) {
+        let v0 = sample_at(values, dx, from.x, from.y);
+        let v1 = sample_at(values, dx, to.x, to.y);
+        return moved_by(fraction(level.threshold, v0, v1));
+    }
+    Coordinate::Stayed
+}
+
+// What smoothing does to the vertex at a point of doubled coordinates.
+pub fn vertex_moves(values: &[f64], level: Level, dx: u32, dy: u32, point: Point) -> VertexMoves
+    ensures { λ r. ⌜ r ≡ vertexMoves (now (values .entry)) (level .threshold) dx dy (record { x = point .x; y = point .y }) ⌝ }
+{
+    let at = Point {
+        x: point.x / 2,
+        y: point.y / 2,
+    };
+    let in_row = Point {
+        x: previous(at.x),
+        y: at.y,
+    };
+    let in_column = Point {
+        x: at.x,
+        y: previous(at.y),
+    };
+    VertexMoves {
+        x: coordinate_moves(values, level, dx, dx, point.x, in_row, at),
+        y: coordinate_moves(values, level, dx, dy, point.y, in_column, at),
     }
 }
