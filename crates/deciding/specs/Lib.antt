@@ -1,0 +1,2 @@
+-- A ring against a ring, with the vertex that decides.
+pub mod Decisions
