@@ -11,3 +11,4 @@ pub mod Joined
 pub mod Checked
 pub mod Texts
 pub mod Once
+pub mod Explained

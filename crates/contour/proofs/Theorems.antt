@@ -196,7 +196,7 @@ module _ (values : List Float) (threshold : Float) (dx dy : ℕ) where
 
   -- contour_lines: one result, each refusal exactly, and exact room filled
   module _ (smooth : Bool) (q : Placing) (lines links : List ℕ) (points : List Float) (directory : List ℕ) where
-    lines-constructed : {answer : Built} {lines′ links′ : List ℕ} {points′ : List Float} {directory′ : List ℕ} → LinesBuilt values threshold dx dy smooth q lines links points directory answer lines′ links′ points′ directory′
+    pub lines-constructed : {answer : Built} {lines′ links′ : List ℕ} {points′ : List Float} {directory′ : List ℕ} → LinesBuilt values threshold dx dy smooth q lines links points directory answer lines′ links′ points′ directory′
         → Constructed (linesPlan values threshold dx dy smooth q) lines links points directory answer lines′ links′ points′ directory′
     lines-constructed k = drawn (linePoints smooth values threshold dx dy q (ringsOf A dx dy)) (bareRecords 0 0 (ringsOf A dx dy)) lines links points directory (k .answers) (k .lines-are) (k .links-are) (k .points-are) (k .directory-is)
 

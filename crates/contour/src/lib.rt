@@ -1,9 +1,12 @@
 // The public face: the two reports, the rings of a grid, the rings of a terrain that comes row by row, a grid's lines, contours and isobands, the reports of a band,
-// the area of a ring, a ring against a ring, and the check of a ring set, the length of its text and the text.
+// the area of a ring, a ring against a ring, the check of a ring set, the length of its text and the text, and why a ring or a vertex is what it is.
 // None asks anything of the caller.
 use area::AreaAnswer;
 use area::Containment;
 use cells::Level;
+use explaining::PolygonAnswer;
+use explaining::RingFate;
+use explaining::VertexAnswer;
 use geojson::TextAnswer;
 use isoringbuilder::Built;
 use isoringbuilder::SecondReport;
@@ -15,6 +18,8 @@ ghost use mathlib.Core.Path.{_≡_};
 ghost use Rattle.area.specs.Answers.{areaAnswer, containsAnswer};
 ghost use Rattle.bands.specs.Bands.{bandFirstReport, BandReported, BandBuilt};
 ghost use Rattle.contourbuilder.specs.Contours.{ContoursBuilt};
+ghost use Rattle.explaining.specs.Fates.{FateFound, polygonAnswer};
+ghost use Rattle.explaining.specs.Vertices.{vertexAnswer};
 ghost use Rattle.geojson.specs.Written.{lengthAnswer, writtenAnswer, textAfter};
 ghost use Rattle.isoringbuilder.specs.Answers.{SecondReported, RingsBuilt};
 ghost use Rattle.linebuilder.specs.Lines.{LinesBuilt};
@@ -242,4 +247,52 @@ pub fn write_geojson(points: &[u16], directory: &[u32], rings: u32, text: &mut [
     ensures { λ _. ⌜ now (text .exit) ≡ textAfter (now (points .entry)) (now (directory .entry)) rings (now (text .entry)) ⌝ }
 {
     geojson::write_geojson(points, directory, rings, text)
+}
+
+// What becomes of a ring of a contour, by the points of a ring set and not by the words of its records: polygon, hole of a polygon with what that answers, or
+// dropped. Every polygon numbered lower than an owner answers -1.
+pub fn ring_fate(points: &[u16], directory: &[u32], rings: u32, ring: u32) -> RingFate
+    ensures { λ r. ⌜ FateFound (now (points .entry)) (now (directory .entry)) rings ring r ⌝ }
+{
+    explaining::ring_fate(points, directory, rings, ring)
+}
+
+// What one ring of a ring set, called the polygon whatever its class, answers for another, with the vertex that decides.
+pub fn polygon_answer(
+    points: &[u16],
+    directory: &[u32],
+    rings: u32,
+    polygon: u32,
+    ring: u32,
+) -> PolygonAnswer
+    ensures { λ r. ⌜ r ≡ polygonAnswer (now (points .entry)) (now (directory .entry)) rings polygon ring ⌝ }
+{
+    explaining::polygon_answer(points, directory, rings, polygon, ring)
+}
+
+// What smoothing does to a vertex of a ring of a ring set, at a level of a grid: each coordinate stays, moves by a fraction, or the fraction is not a number.
+pub fn smoothed_vertex(
+    values: &[f64],
+    level: Level,
+    dx: usize,
+    dy: usize,
+    points: &[u16],
+    directory: &[u32],
+    rings: u32,
+    ring: u32,
+    vertex: u32,
+) -> VertexAnswer
+    ensures { λ r. ⌜ r ≡ vertexAnswer (now (values .entry)) (level .threshold) dx dy (now (points .entry)) (now (directory .entry)) rings ring vertex ⌝ }
+{
+    explaining::smoothed_vertex(
+        values,
+        level,
+        dx,
+        dy,
+        points,
+        directory,
+        rings,
+        ring,
+        vertex,
+    )
 }

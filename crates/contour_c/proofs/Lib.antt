@@ -3,3 +3,4 @@ pub mod Outcomes
 pub mod Answered
 pub mod Called
 pub mod Texts
+pub mod Why

@@ -3,3 +3,4 @@ pub mod ByRow
 pub mod Entries
 pub mod Rings
 pub mod Texts
+pub mod Why

@@ -14,6 +14,9 @@ use rowstate::state_of;
 use rowstate::store_state;
 use scan::FirstReport;
 use smoothing::Placement;
+use telling::tell_answer;
+use telling::tell_fate;
+use telling::tell_vertex;
 ghost use mathlib.Core.Path.{_≡_};
 ghost use Rattle.scope.specs.Area.{areaRefused};
 ghost use Rattle.scope.specs.Containment.{containsRefused};
@@ -24,12 +27,16 @@ ghost use Rattle.bands.specs.Bands.{bandFirstReport, BandReported, BandBuilt};
 ghost use Rattle.contourbuilder.specs.Contours.{ContoursBuilt};
 ghost use Rattle.linebuilder.specs.Lines.{LinesBuilt};
 ghost use Rattle.geojson.specs.Written.{lengthAnswer, writtenAnswer, textAfter};
+ghost use Rattle.explaining.specs.Fates.{FateFound, polygonAnswer};
+ghost use Rattle.explaining.specs.Vertices.{vertexAnswer};
+ghost use Rattle.telling.specs.Outputs.{answerStatus, answerOutput, answerVertex};
 ghost use Rattle.rows.specs.Called.{begunState, begunAnswer, rowCalled, endCalled};
 ghost use Rattle.rowstate.specs.Words.{stateIn};
 ghost use Rattle.contour_c.specs.ByRow.{stateWords, RowEntry};
 ghost use Rattle.contour_c.specs.Entries.{statusOf, areaOutput, containsOutput};
 ghost use Rattle.contour_c.specs.Rings.{firstStatus, firstSegments, firstPeak, builtStatus, builtRings, SecondEntry, RingsEntry, asked};
 ghost use Rattle.contour_c.specs.Texts.{checkStatus, textStatus, textLength};
+ghost use Rattle.contour_c.specs.Why.{FateEntry, VertexEntry};
 
 // The area of a ring of words X, Y, X, Y, and so on: the crate's undivided one times 4, above 0 for a polygon.
 #[no_mangle]
@@ -469,4 +476,76 @@ pub extern "C" fn contour_geojson(
         }
         TextAnswer::Refused(refusal) => error::number(refusal),
     }
+}
+
+// What becomes of a ring of a contour, by the points of a ring set: its class and its owner as a record has them, and the vertex that decided it for its owner.
+#[no_mangle]
+pub extern "C" fn contour_ring_fate(
+    points: &[u16],
+    directory: &[u32],
+    rings: u32,
+    ring: u32,
+    ring_class: &mut u32,
+    owner: &mut u32,
+    vertex: &mut u32,
+) -> u32
+    ensures { λ r. ⌜ FateEntry (FateFound (now (points .entry)) (now (directory .entry)) rings ring) ring (now («ring_class» .entry)) (now (owner .entry)) (now (vertex .entry)) r
+        (now («ring_class» .exit)) (now (owner .exit)) (now (vertex .exit)) ⌝ }
+{
+    let fate = explaining::ring_fate(points, directory, rings, ring);
+    tell_fate(fate, ring, ring_class, owner, vertex)
+}
+
+// What one ring of a ring set answers for another, -1, 0 or 1, and the vertex that decides.
+#[no_mangle]
+pub extern "C" fn contour_polygon_answer(
+    points: &[u16],
+    directory: &[u32],
+    rings: u32,
+    polygon: u32,
+    ring: u32,
+    answer: &mut i32,
+    vertex: &mut u32,
+) -> u32
+    ensures { λ r. ⌜ r ≡ answerStatus (polygonAnswer (now (points .entry)) (now (directory .entry)) rings polygon ring) ⌝ }
+    ensures { λ _. ⌜ now (answer .exit) ≡ answerOutput (now (answer .entry)) (polygonAnswer (now (points .entry)) (now (directory .entry)) rings polygon ring) ⌝ }
+    ensures { λ _. ⌜ now (vertex .exit) ≡ answerVertex (now (vertex .entry)) (polygonAnswer (now (points .entry)) (now (directory .entry)) rings polygon ring) ⌝ }
+{
+    let answered = explaining::polygon_answer(points, directory, rings, polygon, ring);
+    tell_answer(answered, answer, vertex)
+}
+
+// What smoothing does to a vertex of a ring set, coordinate by coordinate: 0 where it stays, 1 where it moves by the fraction, 2 where the fraction is not a number.
+#[no_mangle]
+pub extern "C" fn contour_smoothed_vertex(
+    values: &[f64],
+    threshold: f64,
+    dx: usize,
+    dy: usize,
+    points: &[u16],
+    directory: &[u32],
+    rings: u32,
+    ring: u32,
+    vertex: u32,
+    x_kind: &mut u32,
+    x_fraction: &mut f64,
+    y_kind: &mut u32,
+    y_fraction: &mut f64,
+) -> u32
+    ensures { λ r. ⌜ VertexEntry (vertexAnswer (now (values .entry)) threshold dx dy (now (points .entry)) (now (directory .entry)) rings ring vertex)
+        (now («x_kind» .entry)) (now («x_fraction» .entry)) (now («y_kind» .entry)) (now («y_fraction» .entry)) r
+        (now («x_kind» .exit)) (now («x_fraction» .exit)) (now («y_kind» .exit)) (now («y_fraction» .exit)) ⌝ }
+{
+    let answered = explaining::smoothed_vertex(
+        values,
+        Level { threshold },
+        dx,
+        dy,
+        points,
+        directory,
+        rings,
+        ring,
+        vertex,
+    );
+    tell_vertex(answered, x_kind, x_fraction, y_kind, y_fraction)
 }

@@ -2,16 +2,14 @@
 -- vertices of a ring in a packed table: those that are not passed yet come to what all do, and a vertex of the row of the outer ring's first point is passed.
 -- Assumes nothing.
 use mathlib.Core.Path.{_≡_, refl, sym, ap, _∙_}
-use mathlib.Core.Bool.{Bool, true, false, cond}
+use mathlib.Core.Bool.{false}
 use mathlib.Core.List.{List, [], _∷_}
-use Prim.Native.Nat.{ℕ, zero, suc, _+_, _*_, _-_, _<_, _≤_}
+use Prim.Native.Nat.{ℕ, suc, _+_, _-_, _<_, _≤_}
 use native.Mathlib.Decide.{decLt}
-use native.Mathlib.Nat.{add-zero, zero-add}
+use native.Mathlib.Nat.{add-zero}
 use native.Mathlib.Numerals.{add-one}
 use native.Mathlib.Omega.{arith}
-use lib.Dec.{eqb}
-use borrow.Author.Count.{below-none}
-use borrow.Author.Tests.{eqb-true, eq-eqb, ne-eqb, lt-ltb, le-ltb}
+use borrow.Author.Tests.{lt-ltb, le-ltb}
 use Rattle.scope.specs.Cells.{Point}
 use Rattle.scope.specs.Stitching.{Line}
 use Rattle.scope.specs.Containment.{Answer, outside, boundary, inside, onPair, flips, pointAgainst, decide, ringAgainst}
@@ -20,7 +18,7 @@ use Rattle.extents.specs.Points.{pointIn, ringIn}
 use Rattle.taking.specs.Places.{walkTo, beside}
 use Rattle.taking.proofs.Rows.{passed-over}
 use Rattle.taking.proofs.Walks.{last-in, first-passed}
-use Rattle.deciding.specs.Decisions.{decidedBy, decisionFrom, decisionOf, answerIn, leadingIn, RingCloses}
+use Rattle.deciding.specs.Decisions.{decidedBy, decisionFrom, decisionOf, answerIn, RingCloses}
 use Rattle.deciding.specs.declared.Decision.{Decision}
 use Rattle.deciding.specs.declared.Decision.the-variants as decision-is
 
@@ -114,74 +112,3 @@ unfolding decisionOf
 left-begin outer points first count =
     let all : count - 0 ≡ count = omega arith in
     record { not-past = omega arith; left = rw (add-zero, all) refl }
-
--- ---- the vertices at the front that lie in one row
-
--- so many vertices before v, and what is left of them
-pub record Leading (points : List ℕ) (row first count v : ℕ) : Type 0 where
-  pub not-past : v ≤ count
-  pub rest : leadingIn row (ringIn points first count) ≡ v + leadingIn row (ringIn points (first + v) (count - v))
-
-pub leading-begin : (points : List ℕ) (row first count : ℕ) → Leading points row first count 0
-leading-begin points row first count =
-    let all : count - 0 ≡ count = omega arith in
-    record { not-past = omega arith; rest = rw (add-zero, zero-add, all) refl }
-
-module _ {points : List ℕ} {row first count v : ℕ} (s : Leading points row first count v) where
-  leading-at : v < count →
-      leadingIn row (ringIn points first count) ≡ v + cond (eqb (pointIn points (first + v) .y) row) (suc (leadingIn row (ringIn points (first + (v + 1)) (count - (v + 1))))) 0
-  unfolding leadingIn ringIn
-  leading-at h =
-      let e : count - v ≡ suc (count - (v + 1)) = omega arith in
-      let f : first + (v + 1) ≡ suc (first + v) = omega arith in
-      s .rest ∙ rw (e, f) refl
-
-  pub leading-next : v < count → pointIn points (first + v) .y ≡ row → Leading points row first count (v + 1)
-  leading-next h e = record {
-    not-past = omega arith;
-    rest = leading-at h ∙ rw (eq-eqb (pointIn points (first + v) .y) row e) (omega arith);
-  }
-
-  -- the first of another row
-  pub leading-stops : v < count → (pointIn points (first + v) .y ≡ row → ⊥) → v ≡ leadingIn row (ringIn points first count)
-  leading-stops h e = sym (leading-at h ∙ rw (ne-eqb (pointIn points (first + v) .y) row e) (add-zero v))
-
-  -- all lie in the row
-  pub leading-ends : count ≤ v → v ≡ leadingIn row (ringIn points first count)
-  unfolding leadingIn ringIn
-  leading-ends h =
-      let e : count - v ≡ 0 = omega arith in
-      sym (s .rest ∙ rw e (add-zero v))
-
--- of so many points from a first one on, the first n lie in the row
-abbrev Led : List ℕ → ℕ → ℕ → ℕ → ℕ → Type 0
-Led points row first count n = (n ≤ count) × ((k : ℕ) → k < n → pointIn points (first + k) .y ≡ row)
-
-leading : (points : List ℕ) (row : ℕ) (count first : ℕ) → Led points row first count (leadingIn row (ringIn points first count))
-unfolding leadingIn ringIn
-leading points row zero first = (omega arith, below-none _)
-leading points row (suc count) first = by (leading points row count (suc first)) (eqb (pointIn points first .y) row) refl
-  where
-    by : Led points row (suc first) count (leadingIn row (ringIn points (suc first) count)) → (b : Bool) → eqb (pointIn points first .y) row ≡ b
-        → Led points row first (suc count) (cond b (suc (leadingIn row (ringIn points (suc first) count))) 0)
-    by behind true e = (omega (arith, behind .0), at)
-      where
-        at : (k : ℕ) → k < suc (leadingIn row (ringIn points (suc first) count)) → pointIn points (first + k) .y ≡ row
-        at zero h = rw add-zero (eqb-true _ _ e)
-        at (suc k) h =
-            let f : first + suc k ≡ suc first + k = omega arith in
-            rw f (behind .1 k (omega arith))
-    by behind false e = (omega arith, below-none _)
-
--- where the outer ring's first point lies in the row, all of them are passed at once
-pub leading-passed : (outer : Line) (points : List ℕ) (first count : ℕ) (row : ℕ) → ((p : Point) → p .y ≡ row → pointAgainst outer p ≡ boundary) →
-    Left outer points first count (leadingIn row (ringIn points first count))
-leading-passed outer points first count row zero-there = upTo (leadingIn row (ringIn points first count)) (omega arith)
-  where
-    led : Led points row first count (leadingIn row (ringIn points first count))
-    led = leading points row count first
-
-    upTo : (n : ℕ) → n ≤ leadingIn row (ringIn points first count) → Left outer points first count n
-    upTo zero h = left-begin outer points first count
-    upTo (suc n) h =
-        rw (add-one n) at (left-next (upTo n (omega arith)) (omega (arith, led .0)) (zero-there (pointIn points (first + n)) (led .1 n (omega arith))))

@@ -1,15 +1,13 @@
 -- A ring against a ring: "the first vertex whose answer is not 0 decides; if there is none, 0", with the number of that vertex. Then what is asked of rings
 -- whose points stand in a packed table. Assumes nothing.
 use mathlib.Core.Path.{_≡_}
-use mathlib.Core.Bool.{cond}
 use mathlib.Core.List.{List, [], _∷_}
 use Prim.Native.Nat.{ℕ, suc, _+_, _*_, _-_, _≤_}
-use lib.Dec.{eqb}
 use lib.ListN.{length}
 use Rattle.scope.specs.Limits.{pointLimit}
 use Rattle.scope.specs.Stitching.{Line}
 use Rattle.scope.specs.Containment.{Answer, outside, boundary, inside, pointAgainst}
-use Rattle.extents.specs.Points.{pointIn, ringIn}
+use Rattle.extents.specs.Points.{pointIn}
 use Rattle.deciding.specs.declared.Decision.{Decision}
 use Rattle.deciding.specs.declared.Decision.the-variants as decision-is
 
@@ -33,11 +31,6 @@ answerIn (decision-is.Inside k) = inside
 answerIn (decision-is.Outside k) = outside
 answerIn decision-is.Undecided = boundary
 
--- how many vertices at the front of a ring lie in a row
-unfoldable pub leadingIn : ℕ → Line → ℕ
-leadingIn row [] = 0
-leadingIn row (p ∷ l) = cond (eqb (p .y) row) (suc (leadingIn row l)) 0
-
 -- ---- rings in a packed table
 
 -- the words hold a ring of so many points from the point of number first on
@@ -50,7 +43,3 @@ pub record RingLies (points : List ℕ) (first count : ℕ) : Type 0 where
 pub record RingCloses (points : List ℕ) (first count : ℕ) : Type 0 where
   pub lies : RingLies points first count
   pub closed : pointIn points (first + (count - 1)) ≡ pointIn points first
-
--- how many vertices at the front of a ring lie in the row of its first
-unfoldable pub rowLeft : List ℕ → ℕ → ℕ → ℕ
-rowLeft points first count = leadingIn (pointIn points first .y) (ringIn points first count)

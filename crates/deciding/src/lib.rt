@@ -4,7 +4,7 @@ use taking::Place;
 use taking::along;
 ghost use mathlib.Core.Path.{_≡_};
 ghost use Rattle.extents.specs.Points.{ringIn};
-ghost use Rattle.deciding.specs.Decisions.{decisionOf, rowLeft, RingLies, RingCloses};
+ghost use Rattle.deciding.specs.Decisions.{decisionOf, RingLies, RingCloses};
 
 // What the vertices of a ring come to against another ring, the outer one.
 pub enum Decision {
@@ -16,41 +16,20 @@ pub enum Decision {
     Undecided,
 }
 
-// The number of the first vertex of a ring that is not in the row of the ring's first vertex, or the number of its points where there is none.
-pub fn row_left(points: &[u16], first: usize, count: usize) -> usize
-    requires { ⌜ RingLies (now points) first count ⌝ }
-    ensures { λ r. ⌜ r ≡ rowLeft (now (points .entry)) first count ⌝ }
-{
-    let row = points[2 * first + 1];
-    let mut k = 0;
-    while k < count {
-        if points[2 * (first + k) + 1] != row {
-            return k;
-        }
-        k += 1;
-    }
-    k
-}
-
-// What the vertices of a ring come to against the outer ring. `turn` is what row_left gives: where the outer ring's first point lies in the row of the
-// ring's first vertex, the vertices before it are passed over at once.
+// What the vertices of a ring come to against the outer ring. A vertex in the row of the outer ring's first point is passed over at once.
 pub fn decide(
     points: &[u16],
     outer_first: usize,
     outer_count: usize,
     first: usize,
     count: usize,
-    turn: usize,
 ) -> Decision
-    requires { ⌜ RingCloses (now points) «outer_first» «outer_count» × RingLies (now points) first count × (turn ≡ rowLeft (now points) first count) ⌝ }
+    requires { ⌜ RingCloses (now points) «outer_first» «outer_count» × RingLies (now points) first count ⌝ }
     ensures { λ r. ⌜ r ≡ decisionOf (ringIn (now (points .entry)) «outer_first» «outer_count») (ringIn (now (points .entry)) first count) ⌝ }
 {
     let last = outer_first + (outer_count - 1);
     let row = points[2 * outer_first + 1];
     let mut v = 0;
-    if points[2 * first + 1] == row {
-        v = turn;
-    }
     while v < count {
         let x = points[2 * (first + v)];
         let y = points[2 * (first + v) + 1];

@@ -4,12 +4,10 @@ use cells::Level;
 use cells::Point;
 use deciding::Decision;
 use deciding::decide;
-use deciding::row_left;
 use error::Refusal;
 use grid::GridFit;
 use grid::grid_fit;
 use noting::area_at;
-use noting::is_polygon;
 use ringset::record_at;
 use ringset::ring_set_faulty;
 use smoothing::VertexMoves;
@@ -18,8 +16,8 @@ ghost use mathlib.Core.Path.{_≡_};
 ghost use mathlib.Core.Bool.{false};
 ghost use Prim.Native.Nat.{_<_};
 ghost use Rattle.scope.specs.Containment.{notOutside};
-ghost use Rattle.scope.specs.GeoJson.{firstAt, countAt, ringAt, ringSetRefused};
-ghost use Rattle.deciding.specs.Decisions.{decisionOf, answerIn, rowLeft};
+ghost use Rattle.scope.specs.GeoJson.{countAt, ringAt, ringSetRefused};
+ghost use Rattle.deciding.specs.Decisions.{decisionOf, answerIn};
 ghost use Rattle.explaining.specs.Fates.{ringsIn, RingOf, holeTold, isPolygonBy, FateFound, polygonAnswer};
 ghost use Rattle.explaining.specs.Vertices.{inGrid, midway, vertexOfRing, vertexTold, vertexAnswer};
 
@@ -55,28 +53,13 @@ fn polygon_at(points: &[u16], directory: &[u32], rings: u32, k: u32) -> bool
     ensures { λ r. ⌜ r ≡ isPolygonBy (now (points .entry)) (now (directory .entry)) k ⌝ }
 {
     let ring = record_at(directory, k);
-    is_polygon(area_at(points, ring.first as usize, ring.count as usize))
+    let area = area_at(points, ring.first as usize, ring.count as usize);
+    0 < area
 }
 
-// How many vertices at the front of a ring of a checked set lie in the row of its first.
-fn turn_at(points: &[u16], directory: &[u32], rings: u32, k: u32) -> usize
-    requires { ⌜ RingOf (now points) (now directory) rings k ⌝ }
-    ensures { λ r. ⌜ r ≡ rowLeft (now (points .entry)) (firstAt (now (directory .entry)) k) (countAt (now (directory .entry)) k) ⌝ }
-{
-    let ring = record_at(directory, k);
-    row_left(points, ring.first as usize, ring.count as usize)
-}
-
-// What ring `outer` of a checked set answers for ring `k`, of which `turn` vertices at the front lie in the row of the first.
-fn decision_at(
-    points: &[u16],
-    directory: &[u32],
-    rings: u32,
-    outer: u32,
-    k: u32,
-    turn: usize,
-) -> Decision
-    requires { ⌜ RingOf (now points) (now directory) rings outer × RingOf (now points) (now directory) rings k × (turn ≡ rowLeft (now points) (firstAt (now directory) k) (countAt (now directory) k)) ⌝ }
+// What ring `outer` of a checked set answers for ring `k`.
+fn decision_at(points: &[u16], directory: &[u32], rings: u32, outer: u32, k: u32) -> Decision
+    requires { ⌜ RingOf (now points) (now directory) rings outer × RingOf (now points) (now directory) rings k ⌝ }
     ensures { λ r. ⌜ r ≡ decisionOf (ringAt (now (points .entry)) (now (directory .entry)) outer) (ringAt (now (points .entry)) (now (directory .entry)) k) ⌝ }
 {
     let about = record_at(directory, outer);
@@ -87,7 +70,6 @@ fn decision_at(
         about.count as usize,
         ring.first as usize,
         ring.count as usize,
-        turn,
     )
 }
 
@@ -107,7 +89,6 @@ fn hole_told(points: &[u16], directory: &[u32], rings: u32, ring: u32) -> RingFa
     requires { ⌜ RingOf (now points) (now directory) rings ring ⌝ }
     ensures { λ r. ⌜ r ≡ holeTold (ringsIn (now (points .entry)) (now (directory .entry)) rings) (ringAt (now (points .entry)) (now (directory .entry)) ring) ⌝ }
 {
-    let turn = turn_at(points, directory, rings, ring);
     let mut k: u32 = 0;
     while k < rings {
         let outer = k;
@@ -115,7 +96,7 @@ fn hole_told(points: &[u16], directory: &[u32], rings: u32, ring: u32) -> RingFa
         if !polygon_at(points, directory, rings, outer) {
             continue;
         }
-        let answer = decision_at(points, directory, rings, outer, ring, turn);
+        let answer = decision_at(points, directory, rings, outer, ring);
         if holds(answer) {
             return RingFate::Hole(outer, answer);
         }
@@ -158,8 +139,7 @@ pub fn polygon_answer(
     if rings <= ring {
         return PolygonAnswer::Refused(Refusal::NotThere);
     }
-    let turn = turn_at(points, directory, rings, ring);
-    PolygonAnswer::Decided(decision_at(points, directory, rings, polygon, ring, turn))
+    PolygonAnswer::Decided(decision_at(points, directory, rings, polygon, ring))
 }
 
 // Whether the sample in a column and a row, both counted from one outside, is in the grid.

@@ -12,7 +12,7 @@ ghost use Rattle.noting.specs.Noted.{Countable, Noted, Measurable, HighN
 ghost use Rattle.noting.specs.Step.{RingWithin, RecordNotable, NotedOne, RecordMeasurable, highPut};
 
 // Whether a ring of this area is a polygon.
-pub fn is_polygon(area: i64) -> bool
+fn is_polygon(area: i64) -> bool
     ensures { λ r. ⌜ r ≡ positive area ⌝ }
 {
     0 < area

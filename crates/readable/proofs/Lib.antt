@@ -1,4 +1,5 @@
--- Laws of ring sets against number 9 and their text, with no code. Laws.antt, Text.antt, Pieces.antt, Past.antt and Counts.antt have those that other crates cite.
+-- Laws of ring sets against number 9 and their text, with no code. Laws.antt, Text.antt, Pieces.antt, Past.antt, Counts.antt and
+-- Standing.antt have those that other crates cite.
 pub mod Behind
 pub mod Packed
 pub mod Orders
@@ -10,3 +11,4 @@ pub mod Text
 pub mod Pieces
 pub mod Past
 pub mod Counts
+pub mod Standing

@@ -1,25 +1,23 @@
 -- `deciding::decide` meets its contract. The loop's invariant is `Left`: the vertices that are not passed come to what all do. A vertex in the row of the outer
 -- ring's first point answers 0, and for any other the pairs of neighbours answer. The measure is how many vertices are left. Assumes nothing.
-use mathlib.Core.Path.{_≡_, refl, sym, ap, subst, _∙_}
-use mathlib.Core.Logic.{⊎-elim}
-use Prim.Native.Nat.{_-_, _+_}
+use mathlib.Core.Path.{_≡_, sym, _∙_}
+use Prim.Native.Nat.{_+_, _-_}
 use native.Mathlib.Omega.{arith}
 use borrow.Author.Needs.{needs}
-use Rattle.scope.specs.Containment.{Answer, outside, boundary, inside, pointAgainst}
 use Rattle.scope.specs.Limits.{pointLimit}
+use Rattle.scope.specs.Containment.{Answer, outside, boundary, inside, pointAgainst}
 use Rattle.extents.specs.Points.{pointIn, ringIn}
 use Rattle.taking.specs.Places.{placeOf}
 use Rattle.taking.proofs.Walks.{placed}
-use Rattle.deciding.specs.Decisions.{rowLeft}
-use Rattle.deciding.proofs.Laws.{Left, left-begin, left-next, left-inside, left-outside, left-none, in-first-row, by-neighbours, leading-passed}
+use Rattle.deciding.proofs.Laws.{Left, left-begin, left-next, left-inside, left-outside, left-none, in-first-row, by-neighbours}
 use Rattle.deciding.proofs.decide.Statement.{statement}
 use Rattle.deciding.proofs.decide.Tie as tie
 
 abbrev Inv-loop : tie.InvT-loop
-Inv-loop points outer-first outer-count first count turn last row v₀ v = Left (ringIn points outer-first outer-count) points first count v
+Inv-loop points outer-first outer-count first count last row v₀ v = Left (ringIn points outer-first outer-count) points first count v
 
 abbrev μ-loop : tie.MeasureT-loop
-μ-loop points outer-first outer-count first count turn last row v₀ v = count - v
+μ-loop points outer-first outer-count first count last row v₀ v = count - v
 
 sub-last : tie.Need-sub-last Inv-loop μ-loop
 sub-last c = omega arith
@@ -39,26 +37,8 @@ mul-row-2 c = omega arith
 shared-slice-read-row : tie.Need-shared-slice-read-row Inv-loop μ-loop
 shared-slice-read-row c = omega arith
 
-mul-if1 : tie.Need-mul-if1 Inv-loop μ-loop
-mul-if1 c = omega arith
-
-add-if1 : tie.Need-add-if1 Inv-loop μ-loop
-add-if1 c = omega arith
-
-mul-if1-2 : tie.Need-mul-if1-2 Inv-loop μ-loop
-mul-if1-2 c = omega arith
-
-shared-slice-read-if1 : tie.Need-shared-slice-read-if1 Inv-loop μ-loop
-shared-slice-read-if1 c = omega arith
-
 loop-holds : tie.Need-loop-holds Inv-loop μ-loop
-unfolding rowLeft pointIn
-loop-holds c =
-    let start = c .before .before .before .before in
-    ⊎-elim
-    (λ w. rw (w .1 ∙ start .pre .2) (leading-passed _ _ _ _ _ (λ p e. in-first-row (start .pre .0) p (e ∙ w .0 .taken))))
-    (λ w. rw (w .1) (left-begin _ _ _ _))
-    (c .if1 .came)
+loop-holds c = left-begin _ _ _ _
 
 add-x : tie.Need-add-x Inv-loop μ-loop
 add-x c = omega arith
@@ -100,25 +80,25 @@ loop-less c = omega arith
 loop-again : tie.Need-loop-again Inv-loop μ-loop
 unfolding pointIn
 loop-again c =
-    let at-vertex = c .before .before .before .before in
-    let start = at-vertex .before .before .before .before .before .before in
-    left-next (at-vertex .before .loop .inv) (at-vertex .loop-test .taken) (in-first-row (start .pre .0) _ (c .if2 .taken))
+    let at-vertex = c .before .before .before in
+    let start = at-vertex .before .before .before .before in
+    left-next (at-vertex .before .loop .inv) (at-vertex .loop-test .taken) (in-first-row (start .pre .0) _ (c .if1 .taken))
 
 along-requires : tie.Need-along-requires Inv-loop μ-loop
 along-requires c κs = search needs
 
 -- the turn of the loop, seen from past the pairs
 abbrev At-vertex : tie.After-along Inv-loop μ-loop → tie.In-loop Inv-loop μ-loop
-At-vertex c = c .before .before .before .before .before
+At-vertex c = c .before .before .before .before
 
 abbrev At-start : tie.After-along Inv-loop μ-loop → tie.Start Inv-loop μ-loop
-At-start c = At-vertex c .before .before .before .before .before .before
+At-start c = At-vertex c .before .before .before .before
 
 -- the vertex answers what the pairs do
 answered : (c : tie.After-along Inv-loop μ-loop) (a : Answer) → c .along .result ≡ placeOf a →
     pointAgainst (ringIn (At-start c .args .points .now) (At-start c .args .outer-first) (At-start c .args .outer-count)) (pointIn (At-start c .args .points .now) (At-start c .args .first + At-vertex c .before .loop .v)) ≡ a
 unfolding pointIn
-answered c a e = by-neighbours (At-start c .pre .0) _ (c .before .if2 .left) ∙ placed _ a (sym (c .along .ensures) ∙ e)
+answered c a e = by-neighbours (At-start c .pre .0) _ (c .before .if1 .left) ∙ placed _ a (sym (c .along .ensures) ∙ e)
 
 enum-told : tie.Need-enum-told Inv-loop μ-loop
 enum-told c = search needs
@@ -165,10 +145,6 @@ decide-spec =
     add-row
     mul-row-2
     shared-slice-read-row
-    mul-if1
-    add-if1
-    mul-if1-2
-    shared-slice-read-if1
     loop-holds
     add-x
     mul-x

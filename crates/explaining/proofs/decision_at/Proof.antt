@@ -1,6 +1,4 @@
 -- `explaining::decision_at` meets its contract: both records' rings are there, and the outer one is closed. Assumes nothing.
-use mathlib.Core.Path.{sym, ap, _∙_}
-use native.Mathlib.Omega.{arith}
 use borrow.Author.Needs.{needs}
 use Rattle.explaining.proofs.Rings.{ring-lies, ring-closes, ring-is}
 use Rattle.explaining.proofs.decision_at.Statement.{statement}
@@ -30,7 +28,7 @@ decide-requires c κs =
     let outer = inner .before in
     let start = outer .before .before .before in
     rw (outer .record-at .ensures .0, outer .record-at .ensures .1, inner .record-at2 .ensures .0, inner .record-at2 .ensures .1)
-    (ring-closes (start .pre .0), ring-lies (start .pre .1), start .pre .2)
+    (ring-closes (start .pre .0), ring-lies (start .pre .1))
 
 returns : tie.Need-returns
 returns c =

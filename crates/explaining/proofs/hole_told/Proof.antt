@@ -18,25 +18,22 @@ use Rattle.explaining.proofs.hole_told.Statement.{statement}
 use Rattle.explaining.proofs.hole_told.Tie as tie
 
 abbrev Inv-loop : tie.InvT-loop
-Inv-loop points directory rings ring turn k₀ k = Sought points directory (ringAt points directory ring) rings k
+Inv-loop points directory rings ring k₀ k = Sought points directory (ringAt points directory ring) rings k
 
 abbrev μ-loop : tie.MeasureT-loop
-μ-loop points directory rings ring turn k₀ k = rings - k
-
-turn-at-requires : tie.Need-turn-at-requires Inv-loop μ-loop
-turn-at-requires c κs = search needs
+μ-loop points directory rings ring k₀ k = rings - k
 
 loop-holds : tie.Need-loop-holds Inv-loop μ-loop
 loop-holds c = sought-begin _ _ _ _
 
 add-k : tie.Need-add-k Inv-loop μ-loop
-add-k c = omega arith
+add-k c = search needs
 
 polygon-at-requires : tie.Need-polygon-at-requires Inv-loop μ-loop
 polygon-at-requires c κs = search needs
 
 loop-less : tie.Need-loop-less Inv-loop μ-loop
-loop-less c = omega arith
+loop-less c = search needs
 
 loop-again : tie.Need-loop-again Inv-loop μ-loop
 loop-again c =
@@ -54,7 +51,7 @@ abbrev At-decision : tie.After-holds Inv-loop μ-loop → tie.After-decision-at 
 At-decision c = c .before
 
 abbrev At-start : tie.After-holds Inv-loop μ-loop → tie.Start Inv-loop μ-loop
-At-start c = At-decision c .before .before .before .before .before .before .before .before
+At-start c = At-decision c .before .before .before .before .before .before .before
 
 abbrev At-turn : tie.After-holds Inv-loop μ-loop → tie.In-loop Inv-loop μ-loop
 At-turn c = At-decision c .before .before .before
@@ -79,7 +76,7 @@ returns c =
     rw (At-decision told .decision-at .ensures) (the-owner _ _ _ (turn .before .loop .inv) (turn .loop-test .taken) (asked-polygon told) (answer-holds told ∙ c .if2 .taken))
 
 loop-less-2 : tie.Need-loop-less-2 Inv-loop μ-loop
-loop-less-2 c = omega arith
+loop-less-2 c = search needs
 
 loop-again-2 : tie.Need-loop-again-2 Inv-loop μ-loop
 loop-again-2 c =
@@ -96,7 +93,6 @@ hole-told-spec =
     (tie.spec
     Inv-loop
     μ-loop
-    turn-at-requires
     loop-holds
     add-k
     polygon-at-requires

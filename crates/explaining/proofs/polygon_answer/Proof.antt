@@ -29,28 +29,16 @@ returns-3 c =
 passes : (c : tie.Else3) → ringSetRefused (c .before .before .before .before .before .before .args .points .now) (c .before .before .before .before .before .before .args .directory .now) (c .before .before .before .before .before .before .args .rings) ≡ false
 passes c = sym (c .before .before .before .ring-set-faulty .ensures) ∙ c .before .before .if1 .left
 
-turn-at-requires : tie.Need-turn-at-requires
-turn-at-requires c κs = record { passes = passes c; there = c .if3 .left }
-
 decision-at-requires : tie.Need-decision-at-requires
-decision-at-requires c κs =
-    let tested = c .before in
-    (record { passes = passes tested; there = tested .before .if2 .left }, record { passes = passes tested; there = tested .if3 .left }, c .turn-at .ensures)
+decision-at-requires c κs = (record { passes = passes c; there = c .before .if2 .left }, record { passes = passes c; there = c .if3 .left })
 
 returns-4 : tie.Need-returns-4
 unfolding polygonAnswer
 returns-4 c =
-    let tested = c .before .before in
+    let tested = c .before in
     rw (passes tested, lt-ltb _ _ (tested .before .if2 .left), lt-ltb _ _ (tested .if3 .left), c .decision-at .ensures)
 
 pub polygon-answer-spec : {M : Type 1} → statement M
 polygon-answer-spec =
     tie.close
-    (tie.spec
-    ring-set-faulty-requires
-    returns
-    returns-2
-    returns-3
-    turn-at-requires
-    decision-at-requires
-    returns-4)
+    (tie.spec ring-set-faulty-requires returns returns-2 returns-3 decision-at-requires returns-4)

@@ -1,10 +1,9 @@
 -- `explaining::polygon_at` meets its contract: the record's ring is there, and its area decides. Assumes nothing.
-use mathlib.Core.Path.{_≡_, ap, _∙_}
-use native.Mathlib.Omega.{arith}
+use mathlib.Core.Path.{_≡_}
 use borrow.Author.Needs.{needs}
 use mir.Syntax.{w64}
 use mir.Val.{toZ, ofZ}
-use Rattle.scope.specs.Area.{positive}
+use Rattle.noting.proofs.Signs.{above-zero}
 use Rattle.explaining.specs.Fates.{isPolygonBy}
 use Rattle.explaining.proofs.Rings.{ring-within, ring-is}
 use Rattle.explaining.proofs.polygon_at.Statement.{statement}
@@ -24,17 +23,19 @@ area-at-requires c κs =
     let at-record = c .before .before in
     rw (at-record .record-at .ensures .0, at-record .record-at .ensures .1) (ring-within (at-record .before .before .before .pre))
 
-is-polygon-requires : tie.Need-is-polygon-requires
-is-polygon-requires c κs = search needs
-
 returns : tie.Need-returns
 unfolding isPolygonBy
 returns c =
-    let at-record = c .before .before .before .before in
-    let same : toZ w64 (ofZ w64 (c .before .area-at .result)) ≡ c .before .area-at .result = search needs in
-    c .is-polygon .ensures
-    ∙ ap positive same
-    ∙ rw (c .before .area-at .ensures, at-record .record-at .ensures .0, at-record .record-at .ensures .1, ring-is (at-record .before .before .before .pre))
+    let at-record = c .before .before .before in
+    let same : toZ w64 (ofZ w64 (c .area-at .result)) ≡ c .area-at .result = search needs in
+    rw (
+      same,
+      above-zero (c .area-at .result),
+      c .area-at .ensures,
+      at-record .record-at .ensures .0,
+      at-record .record-at .ensures .1,
+      ring-is (at-record .before .before .before .pre),
+    )
 
 pub polygon-at-spec : {M : Type 1} → statement M
 polygon-at-spec =
@@ -44,5 +45,4 @@ polygon-at-spec =
     cast-area-at
     cast-area-at-2
     area-at-requires
-    is-polygon-requires
     returns)
