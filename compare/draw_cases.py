@@ -101,6 +101,38 @@ def turned(points):
     return [(x, 6 - y) for x, y in reversed(points)]
 
 
+# Frames about one another: the dot in the middle closes first, then the hole about it, then the outermost ring.
+FRAMES = "1 1 1 1 1\n1 0 0 0 1\n1 0 1 0 1\n1 0 0 0 1\n1 1 1 1 1\n"
+
+
+def dots(count):
+    """So many dots in a row, which close first, and two rows below them a frame, whose hole closes next."""
+    width = max(3, 2 * count - 1)
+    rows = [["0"] * width for _ in range(5)]
+    rows[0][: 2 * count : 2] = ["1"] * count
+    for row, begins in zip(rows[2:], ["111", "101", "111"]):
+        row[:3] = begins
+    return "\n".join(" ".join(row) for row in rows)
+
+
+def is_polygon(number, area):
+    return f"ring {number} is a polygon: its area is {area}, which is above 0\n"
+
+
+def is_hole(number, owner, at, others):
+    """What is said of a hole: its first point, and of other polygons."""
+    return f"ring {number} is a hole of polygon {owner}: its vertex 0 at {at} lies inside; {others}\n"
+
+
+def below_dots(count, named, more=""):
+    """What is said of the hole below dots: it begins two rows below that of document 01."""
+    do_not_hold = f"polygons {named} do not hold it: vertex 0 lies outside each"
+    return is_hole(count, count + 1, "(1.5, 4)", do_not_hold + more)
+
+
+TABLE_HEAD = "  ring  class     owner  points\n"
+TWENTY = "0, 1, 2, 3, 4, 5, 6, 7, 8, 9, 10, 11, 12, 13, 14, 15, 16, 17, 18 and 19"
+
 # What is read from standard input, the words behind the file '-', and what is printed.
 DRAWN = [
     ("5\n", "5", ONE),
@@ -193,7 +225,26 @@ DRAWN = [
     ("1 2", "1 2 --levels --stream", closed('"value":1', 0, 1.5, BOTH) + closed('"value":2', 0, 0.5, SECOND)),
     ("1 2", "0 2 inf --bands --stream", closed('"low":0,"high":2', 0, 0.5, UPPER_LEFT) + closed(
         '"low":2,"high":null', 0, 0.5, SECOND)),
+    # What became of rings, by document 01's areas and owners; in grid units, where there is a header too.
+    (PLATE, "1 --why", TABLE_HEAD + "     0  hole          1       5\n     1  polygon       1      13\n"),
+    (PLATE, "1 --why 0", is_hole(0, 1, "(1.5, 2)", "no polygon has a lower number")),
+    (PLATE, "1 --why 1", is_polygon(1, 8.5)),
+    (PLATE, "1 --why 01 --grid", is_polygon(1, 8.5)),
+    (header("cellsize 10", "cellsize 1e308") + ROWS, "1 --why=0", is_polygon(0, 0.5)),
+    ("5", "9 --why", TABLE_HEAD),
+    (FRAMES, "1 --why 0", is_polygon(0, 0.5)),
+    (FRAMES, "1 --why 1", is_hole(1, 2, "(3.5, 4)", "polygon 0 does not hold it: vertex 0 lies outside")),
+    (FRAMES, "1 --why 2", is_polygon(2, 24.5)),
+    (dots(2), "1 --why 2", below_dots(2, "0 and 1")),
+    (dots(3), "1 --why 3", below_dots(3, "0, 1 and 2")),
+    (dots(20), "1 --why 20", below_dots(20, TWENTY)),
+    (dots(21), "1 --why 21", below_dots(21, TWENTY, "; nor does 1 more")),
+    (dots(30), "1 --why 30", below_dots(30, TWENTY, "; nor do 10 more")),
 ]
+
+# Words that ask for ring 1 of the plate, and words that ask for all rings.
+ASKING_FOR_ONE = ["- 1 --why 1", "- 1 --why=1", "--why 1 - 1", "- --why 1 1", "--why=1 -- - 1", "- 1 --why 7 --why 1"]
+ASKING_FOR_ALL = ["- 1 --why", "--why - 1", "- --why -- 1", "--why --grid - 1"]
 
 # What of a stream is printed before a fault is met, and what the message says.
 BROKEN_OFF = [
@@ -254,6 +305,12 @@ FAILING = [
     ("5", "5 --lines --step 1e308,1 --origin 1.7e308,0", "a coordinate is too large for its origin and step"),
     ("0 1000", "--interval 0.01", "an interval of 0.01 gives more than 10000 levels from 0 to 1000"),
     ("5", "5 --svg --width 100", "the picture is too small for a map beside its axes and its legend"),
+    (PLATE, "1 --why 2", "there is no ring 2: the contour has the rings 0 to 1\n"),
+    ("5", "5 --why 1", "there is no ring 1: the contour has ring 0 alone\n"),
+    ("5", "9 --why 0", "there is no ring 0: the contour has none\n"),
+    ("5", "5 --why 4294967296", "there is no ring 4294967296: the contour has ring 0 alone\n"),
+    ("5", "5 --why 99999999999999999999", "there is no ring 18446744073709551615: the contour has ring 0 alone\n"),
+    ("1 2\n3\n", "1 --why 0", "line 2, column 2: the row ends after 1 of 2 numbers"),
 ]
 
 # Where a stream says of these files something else: it knows neither how many rows there will be, nor GDAL.
@@ -308,4 +365,33 @@ MISUSED = [
     ("- 1 2 --stream --isobands", "--stream and --isobands exclude each other"),
     ("- --interval 1 --stream", "--stream and --interval exclude each other"),
     ("- 1 2 3 --stream", "there are 3 thresholds"),
+    ("--why", "FILE and THRESHOLD are missing"),
+    ("--why 1", "FILE and THRESHOLD are missing"),
+    ("- --why", "THRESHOLD is missing\n"),
+    ("- --why 1", "THRESHOLD is missing: 1 is the N of --why"),
+    ("- 1 2 --why", "--why goes with one THRESHOLD, and there are 2; its N is a whole number"),
+    ("- 1 2 3 --why 0", "--why goes with one THRESHOLD, and there are 3; its N is a whole number"),
+    ("- 1 --why x", "--why goes with one THRESHOLD, and there are 2; its N is a whole number"),
+    ("- 1 --why -1", "--why goes with one THRESHOLD, and there are 2; its N is a whole number"),
+    ("- 1 --why 1.5", "--why goes with one THRESHOLD, and there are 2; its N is a whole number"),
+    ("- 1 --why=x", "--why wants a whole number, not 'x'"),
+    ("- 1 --why=-1", "--why wants a whole number, not '-1'"),
+    ("- 1 --why=+1", "--why wants a whole number, not '+1'"),
+    ("- 1 --why=1.5", "--why wants a whole number, not '1.5'"),
+    ("- 1 --why=", "--why wants a whole number, not ''"),
+    ("- 1 --why --svg", "--svg and --why exclude each other"),
+    ("- 1 --why 0 --png", "--png and --why exclude each other"),
+    ("- 1 --why --counts", "--counts and --why exclude each other"),
+    ("- 1 --why=0 --stream", "--stream and --why exclude each other"),
+    ("- 1 --why --levels", "--why and --levels exclude each other"),
+    ("- 1 2 --why --bands", "--why and --bands exclude each other"),
+    ("- --interval 1 --why", "--why and --interval exclude each other"),
+    ("- 1 --why --lines", "--why and --lines exclude each other"),
+    ("- 1 --why --lines --smooth", "--why and --lines exclude each other"),
+    ("- 1 --why --smooth", "--why and --smooth exclude each other"),
+    ("- 1 --why --isobands", "--why and --isobands exclude each other"),
+    ("- 1 --why --origin 1,2", "--why and --origin exclude each other"),
+    ("- 1 --why --step 1,2", "--why and --step exclude each other"),
+    ("- 1 --why --width 300", "--width goes with --svg or --png"),
+    ("- 1 --why --title it", "--title goes with --svg or --png"),
 ]

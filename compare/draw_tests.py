@@ -15,7 +15,9 @@ import subprocess
 import sys
 import xml.etree.ElementTree
 
-from draw_cases import BROKEN_OFF, DRAWN, FAILING, GRIDS, MISUSED, NO_DATA, STREAM_SAYS
+import draw_why
+from draw_cases import ASKING_FOR_ALL, ASKING_FOR_ONE, BROKEN_OFF, DRAWN, FAILING, FRAMES, GRIDS, MISUSED, NO_DATA
+from draw_cases import PLATE, STREAM_SAYS
 
 SVG = "{http://www.w3.org/2000/svg}"
 # What GDAL and the converters are called, which are left out of the path at times.
@@ -96,6 +98,32 @@ class Tests:
             same &= [ring["geometry"]["coordinates"] for ring in drawn] == line["geometry"]["coordinates"]
             same &= [ring["properties"]["ring"] for ring in drawn] == list(range(len(drawn)))
             same &= sum(ring["properties"]["area"] for ring in drawn) == polygons["properties"]["area"]
+        return same
+
+    def whys(self):
+        """However it is asked, what became of a ring is what document 01 makes of the rings, which --stream gives."""
+        for asking in [ASKING_FOR_ONE, ASKING_FOR_ALL]:
+            said = [self.run(words, PLATE) for words in asking]
+            for words, answer in zip(asking, said):
+                yield words, answer[0] == 0 and answer == said[0]
+        yield "all and one", self.run(ASKING_FOR_ONE[0], PLATE) != self.run(ASKING_FOR_ALL[0], PLATE)
+        numbers = random.Random(2)
+        yield "frames, each ring explained", self.explained(FRAMES, range(3))
+        for k in range(30):
+            dx, dy = numbers.randint(3, 40), numbers.randint(3, 40)
+            share = numbers.uniform(0.5, 0.9)
+            rows = [" ".join(str(int(numbers.random() < share)) for _ in range(dx)) for _ in range(dy)]
+            yield f"terrain {k}, some rings explained", self.explained("\n".join(rows), [0, 1, 5, -1, -2])
+
+    def explained(self, given, some):
+        """Whether the table and the sentences on some rings are as they should be."""
+        status, stream, _ = self.run("- 1 --stream", given)
+        features = [json.loads(line) for line in stream.splitlines()]
+        rings = [[(int(2 * x), int(2 * y)) for x, y in ring["geometry"]["coordinates"]] for ring in features]
+        same = status == 0 and self.run("- 1 --why", given) == (0, draw_why.table(rings).encode(), "")
+        for number in {k % len(rings) for k in some}:
+            expected = draw_why.sentence(rings, number).encode()
+            same &= self.run(f"- 1 --why {number}", given) == (0, expected, "")
         return same
 
     def at_once(self):
@@ -226,8 +254,8 @@ class Tests:
         yield "no converter", (status, out) == (1, b"") and "none is installed: rsvg-convert, inkscape, magick" in said
 
     def all(self):
-        parts = [self.answers, self.streams, self.at_once, self.handed_through_gdal, self.read_as_gdal_reads]
-        for part in [*parts, self.pictures, self.odd_pictures, self.png]:
+        parts = [self.answers, self.streams, self.at_once, self.whys, self.handed_through_gdal]
+        for part in [*parts, self.read_as_gdal_reads, self.pictures, self.odd_pictures, self.png]:
             yield from part()
 
 

@@ -91,7 +91,7 @@
  * itself, and a hole has the record number of its polygon for owner. CONTOUR_NO_OWNER, 4,294,967,295, is no
  * owner: a bare ring and a line have none, and a hole that belongs to no polygon is dropped.
  *
- * Refusals. The lowest that applies is returned, alone, but 13 and 14 come before 5:
+ * Refusals. The first that applies is returned, alone. That is the lowest, but 13 and 14 come before 5:
  *
  *      1   a side is 0 or above 4,096
  *      2   the number of values is not dx * dy
@@ -107,6 +107,8 @@
  *          8,192
  *     13   a row has not dx values
  *     14   a row after the last, an end before the last row, or a second end
+ *     15   a ring or a vertex whose number is not in the tables, or a vertex that does not stand midway between
+ *          two neighbouring samples of which at least one is in the grid
  *
  * Number 12 is the program's, contour_geojson.
  *
@@ -148,6 +150,7 @@
 #define CONTOUR_BAD_RING 11u
 #define CONTOUR_BAD_ROW 13u
 #define CONTOUR_BAD_TURN 14u
+#define CONTOUR_NOT_THERE 15u
 /* No call here returns this: those of contour_easy.h do where malloc has nothing left. */
 #define CONTOUR_NO_MEMORY 255u
 
@@ -157,10 +160,18 @@
 #define CONTOUR_LINE 2u
 #define CONTOUR_NO_OWNER 4294967295u
 
-/* What contour_contains answers. */
+/* What contour_contains and contour_polygon_answer answer. */
 #define CONTOUR_INSIDE 1
 #define CONTOUR_BOUNDARY 0
 #define CONTOUR_OUTSIDE (-1)
+
+/* The number of a vertex where none decides. */
+#define CONTOUR_NO_VERTEX 4294967295u
+
+/* What smoothing does to a coordinate: it stays, it moves by a fraction, or the fraction is not a number. */
+#define CONTOUR_STAYED 0u
+#define CONTOUR_MOVED 1u
+#define CONTOUR_NOT_A_NUMBER 2u
 
 /* The limits: of a side, of a coordinate, of the points of one ring, and of the stack that a call takes. */
 #define CONTOUR_SIDE_LIMIT 4096u
@@ -221,6 +232,8 @@ static inline const char *contour_strerror(uint32_t number) {
         return "the row has not a value for each column";
     case CONTOUR_BAD_TURN:
         return "all rows are there already, or not yet, or the end was taken";
+    case CONTOUR_NOT_THERE:
+        return "there is no ring or vertex of this number, or the vertex stands between no samples";
     case CONTOUR_NO_MEMORY:
         return "there is no memory left";
     default:
@@ -443,6 +456,52 @@ uint32_t contour_geojson_length(const uint16_t *points, size_t points_words, con
 uint32_t contour_geojson(const uint16_t *points, size_t points_words, const uint32_t *directory,
                          size_t directory_words, uint32_t rings, uint8_t *text, size_t text_bytes,
                          uint64_t *length);
+
+/*
+ * What becomes of a ring of a contour, worked out from the points of the ring set alone: whatever class and owner
+ * the records have, the answer is what contour_contours would have written for these rings. A ring whose area is
+ * above 0 is a polygon. Any other is a hole of the polygon of lowest number whose answer for it is not -1, and so
+ * every polygon of a lower number answers -1; where every polygon answers -1 the hole is dropped.
+ *
+ * Returns 0 and sets *ring_class to 0 or 1; *owner to the ring's own number for a polygon, the polygon's number for
+ * a hole, CONTOUR_NO_OWNER for a dropped one; and *vertex to the number, in the ring, of the vertex that decided it
+ * for its owner: it lies inside, and every vertex before it answers 0. Where every vertex answers 0, and for a
+ * polygon or a dropped hole, *vertex is CONTOUR_NO_VERTEX. Or returns 9, or 15 where ring is not below rings; the
+ * outputs then stay as they were.
+ *
+ * On the tables of contour_contours the time goes with the number of their points, and none is refused with 9. On a
+ * ring set made by hand, whose rings may lie on each other, it may go with the points times those of the ring.
+ */
+uint32_t contour_ring_fate(const uint16_t *points, size_t points_words, const uint32_t *directory,
+                           size_t directory_words, uint32_t rings, uint32_t ring, uint32_t *ring_class,
+                           uint32_t *owner, uint32_t *vertex);
+
+/*
+ * What one ring of a ring set, called the polygon whatever its class, answers for another, as contour_contains
+ * does, with the vertex that decided.
+ *
+ * Returns 0 and sets *answer to -1, 0 or 1, and *vertex to the number of the first vertex of the ring whose answer
+ * is not 0, or to CONTOUR_NO_VERTEX where every vertex answers 0. Or returns 9, or 15 where polygon or ring is not
+ * below rings; the outputs then stay as they were.
+ */
+uint32_t contour_polygon_answer(const uint16_t *points, size_t points_words, const uint32_t *directory,
+                                size_t directory_words, uint32_t rings, uint32_t polygon, uint32_t ring,
+                                int32_t *answer, uint32_t *vertex);
+
+/*
+ * What smoothing does to a vertex of a ring, as contour_lines does it to the terrain's lines: a coordinate stays, or
+ * x becomes x + fraction - 0.5, where fraction is (threshold - v0) / (v1 - v0); or that fraction is not a number,
+ * and then the coordinate of the line is none either.
+ *
+ * Returns 0 and sets *x_kind and *y_kind to CONTOUR_STAYED, CONTOUR_MOVED or CONTOUR_NOT_A_NUMBER, and *x_fraction
+ * and *y_fraction where the coordinate moved; otherwise the fraction stays as it was. Or returns 1, 2, 9, or 15
+ * where ring is not below rings, vertex not below the ring's number of points, or the vertex does not stand midway
+ * between two neighbouring samples of which at least one is in the grid; the outputs then stay as they were.
+ */
+uint32_t contour_smoothed_vertex(const double *values, size_t count, double threshold, size_t dx, size_t dy,
+                                 const uint16_t *points, size_t points_words, const uint32_t *directory,
+                                 size_t directory_words, uint32_t rings, uint32_t ring, uint32_t vertex,
+                                 uint32_t *x_kind, double *x_fraction, uint32_t *y_kind, double *y_fraction);
 
 #ifdef __cplusplus
 }

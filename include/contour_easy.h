@@ -21,6 +21,13 @@
  * They are sized by the first report alone, since R is at most a fourth of the segments: so a terrain is stitched
  * once. Words that are not needed are never written.
  *
+ * Of the contour in the tables, contour_easy_fate says why a ring is what it is, contour_easy_answer what a polygon
+ * answers for a ring, and contour_easy_smoothed_vertex what smoothing does to a vertex. They change no table:
+ *
+ *     contour_fate fate;
+ *     if (contour_easy_fate(&tables, k, &fate) == CONTOUR_OK && fate.owner == CONTOUR_NO_OWNER)
+ *         ... ring k is dropped ...
+ *
  * A terrain that comes row by row:
  *
  *     contour_rows rows = contour_easy_rows();
@@ -83,6 +90,24 @@ typedef struct contour_line {
     uint32_t number, count;
     const double *vertices;
 } contour_line;
+
+/* What becomes of a ring: its class, its owner, and its vertex that decided, as contour_ring_fate sets them. */
+typedef struct contour_fate {
+    uint32_t ring_class, owner, vertex;
+} contour_fate;
+
+/* What a polygon answers for a ring: -1, 0 or 1, and the ring's vertex that decided, as contour_polygon_answer sets
+ * them. */
+typedef struct contour_decision {
+    int32_t answer;
+    uint32_t vertex;
+} contour_decision;
+
+/* What smoothing does to a coordinate, and, where that is CONTOUR_MOVED, by which fraction. */
+typedef struct contour_coordinate {
+    uint32_t kind;
+    double fraction;
+} contour_coordinate;
 
 /* A terrain that comes row by row. Its tables, which draw nothing else meanwhile, hold the rings that the last call has
  * closed, of which the first has this number among all. */
@@ -267,6 +292,30 @@ static inline uint32_t contour_easy_geojson(contour_tables *tables) {
     tables->text_length = (size_t)length;
     tables->text[length] = 0;
     return CONTOUR_OK;
+}
+
+/* Why ring k of the contour in the tables is what it is, as contour_ring_fate says. Returns CONTOUR_BAD_RING_SET for
+ * bare rings and lines, as the next two calls do. */
+static inline uint32_t contour_easy_fate(const contour_tables *tables, uint32_t k, contour_fate *fate) {
+    return contour_ring_fate(tables->points, tables->points_words, tables->directory, tables->directory_words,
+                             tables->rings, k, &fate->ring_class, &fate->owner, &fate->vertex);
+}
+
+/* What a polygon in the tables answers for ring k, as contour_polygon_answer says. */
+static inline uint32_t contour_easy_answer(const contour_tables *tables, uint32_t polygon, uint32_t k,
+                                           contour_decision *decision) {
+    return contour_polygon_answer(tables->points, tables->points_words, tables->directory, tables->directory_words,
+                                  tables->rings, polygon, k, &decision->answer, &decision->vertex);
+}
+
+/* What smoothing does to a vertex of ring k, as contour_smoothed_vertex says. The rings of a contour are the lines of
+ * its terrain and threshold, vertex by vertex. */
+static inline uint32_t contour_easy_smoothed_vertex(const contour_tables *tables, contour_terrain terrain,
+                                                    double threshold, uint32_t k, uint32_t vertex,
+                                                    contour_coordinate *x, contour_coordinate *y) {
+    return contour_smoothed_vertex(terrain.values, terrain.count, threshold, terrain.dx, terrain.dy, tables->points,
+                                   tables->points_words, tables->directory, tables->directory_words, tables->rings, k,
+                                   vertex, &x->kind, &x->fraction, &y->kind, &y->fraction);
 }
 
 /* A terrain that was not begun: a row is refused with 13 or 14, and the end with 14. */

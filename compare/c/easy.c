@@ -1,7 +1,7 @@
 /*
  * contour_easy.h against the exact calls in tables of their own, on random terrains with one set of tables for all,
- * as a whole and row by row; what it says where it is refused or has no memory; pointers that are NULL with a count
- * of 0; and the words of contour_strerror.
+ * as a whole and row by row; what it says where it is refused or has no memory, and of rings and vertices; pointers
+ * that are NULL with a count of 0; and the words of contour_strerror.
  */
 #include "checks.h"
 
@@ -79,6 +79,48 @@ static int same_text(contour_tables *tables, uint32_t rings) {
            memcmp(tables->text, text, length) == 0 && tables->text[length] == 0;
 }
 
+/* Whether the easy call says of a ring what the exact one says. */
+static int same_fate(const contour_tables *tables, uint32_t k) {
+    contour_fate easy = {7, 7, 7}, exact = easy;
+    uint32_t number = contour_ring_fate(WORDS(points), WORDS(directory), tables->rings, k, &exact.ring_class,
+                                        &exact.owner, &exact.vertex);
+    return contour_easy_fate(tables, k, &easy) == number && memcmp(&easy, &exact, sizeof easy) == 0;
+}
+
+static int same_answer(const contour_tables *tables, uint32_t polygon, uint32_t k) {
+    contour_decision easy = {7, 7}, exact = easy;
+    uint32_t number = contour_polygon_answer(WORDS(points), WORDS(directory), tables->rings, polygon, k,
+                                             &exact.answer, &exact.vertex);
+    return contour_easy_answer(tables, polygon, k, &easy) == number && memcmp(&easy, &exact, sizeof easy) == 0;
+}
+
+static int same_smoothing(const contour_tables *tables, contour_terrain t, double threshold, uint32_t k,
+                          uint32_t vertex) {
+    contour_coordinate easy_x = {7, 7}, easy_y = {7, 7}, x = {7, 7}, y = {7, 7};
+    uint32_t number =
+        contour_smoothed_vertex(t.values, t.count, threshold, t.dx, t.dy, WORDS(points), WORDS(directory),
+                                tables->rings, k, vertex, &x.kind, &x.fraction, &y.kind, &y.fraction);
+    return contour_easy_smoothed_vertex(tables, t, threshold, k, vertex, &easy_x, &easy_y) == number &&
+           easy_x.kind == x.kind && easy_x.fraction == x.fraction && easy_y.kind == y.kind &&
+           easy_y.fraction == y.fraction;
+}
+
+/* The same of each ring, of each for each, of each vertex, and of the first numbers that are not there. */
+static int same_whys(const contour_tables *tables, contour_terrain terrain, double threshold) {
+    int same = 1;
+    for (uint32_t k = 0; k <= tables->rings; k++) {
+        uint32_t count = k < tables->rings ? directory[4 * k + 1] : 0;
+        same = same && same_fate(tables, k);
+        for (uint32_t polygon = 0; same && polygon <= tables->rings; polygon++) {
+            same = same_answer(tables, polygon, k);
+        }
+        for (uint32_t vertex = 0; same && vertex <= count; vertex++) {
+            same = same_smoothing(tables, terrain, threshold, k, vertex);
+        }
+    }
+    return same;
+}
+
 static void try_terrains(void) {
     contour_tables tables = contour_easy_tables();
     double values[SIDE * SIDE];
@@ -94,7 +136,7 @@ static void try_terrains(void) {
         CHECK(contour_easy_geojson(&tables) == (r == 0 ? CONTOUR_OK : CONTOUR_BAD_RING_SET));
         CHECK(contour_contours(values, count, t, dx, dy, WORK, WORDS(points), WORDS(directory), &r) == CONTOUR_OK);
         CHECK(contour_easy_contours(&tables, terrain, t) == CONTOUR_OK && same_rings(&tables, r));
-        CHECK(same_text(&tables, r));
+        CHECK(same_text(&tables, r) && same_whys(&tables, terrain, t));
         CHECK(contour_isobands(values, count, pair, 2, 0, dx, dy, WORK, WORDS(points), WORDS(directory), &r) ==
               CONTOUR_OK);
         CHECK(contour_easy_isobands(&tables, terrain, pair, 2, 0) == CONTOUR_OK && same_rings(&tables, r));
@@ -200,6 +242,15 @@ static void try_refusals(void) {
     const double values[] = {2, 2, 2, 2, 1, 2, 2, 2, 0}, pair[] = {1, 2};
     const contour_terrain whole = {values, 9, 3, 3}, short_of_one = {values, 8, 3, 3}, flat = {values, 9, 9, 0};
     contour_tables tables = contour_easy_tables();
+    contour_fate fate = {7, 7, 7};
+    contour_decision decision;
+    contour_coordinate x, y;
+    CHECK(contour_easy_fate(&tables, 0, &fate) == CONTOUR_NOT_THERE);
+    CHECK(contour_easy_rings(&tables, whole, 1) == CONTOUR_OK && tables.rings == 1);
+    CHECK(contour_easy_fate(&tables, 0, &fate) == CONTOUR_BAD_RING_SET && fate.owner == 7);
+    CHECK(contour_easy_answer(&tables, 0, 0, &decision) == CONTOUR_BAD_RING_SET);
+    CHECK(contour_easy_smoothed_vertex(&tables, whole, 1, 0, 0, &x, &y) == CONTOUR_BAD_RING_SET);
+    CHECK(contour_easy_smoothed_vertex(&tables, short_of_one, 1, 0, 0, &x, &y) == CONTOUR_BAD_VALUE_COUNT);
     CHECK(contour_easy_contours(&tables, whole, 1) == CONTOUR_OK && tables.rings == 1);
     CHECK(contour_easy_contours(&tables, short_of_one, 1) == CONTOUR_BAD_VALUE_COUNT && tables.rings == 0);
     CHECK(contour_easy_rings(&tables, flat, 1) == CONTOUR_BAD_SIDE && tables.rings == 0);
@@ -239,6 +290,7 @@ static void try_scarce_memory(void) {
 /* NULL where the count is 0: refused as any short table is, and taken where nothing is needed. */
 static void try_null(void) {
     const double one[] = {1}, pair[] = {2, 3};
+    double x, y;
     uint32_t a, b, c, d, open[3] = {0}, state[CONTOUR_ROWS_WORDS];
     uint64_t length;
     int64_t area;
@@ -266,6 +318,12 @@ static void try_null(void) {
     CHECK(contour_contains(ring, 10, NULL, 0, &answer) == CONTOUR_OK && answer == CONTOUR_BOUNDARY);
     CHECK(contour_check(NULL, 0, NULL, 0, 0) == CONTOUR_OK);
     CHECK(contour_check(NULL, 0, NULL, 0, 1) == CONTOUR_BAD_RING_SET);
+    CHECK(contour_ring_fate(NULL, 0, NULL, 0, 0, 0, &a, &b, &c) == CONTOUR_NOT_THERE);
+    CHECK(contour_ring_fate(NULL, 0, NULL, 0, 1, 0, &a, &b, &c) == CONTOUR_BAD_RING_SET);
+    CHECK(contour_polygon_answer(NULL, 0, NULL, 0, 0, 0, 0, &answer, &a) == CONTOUR_NOT_THERE);
+    CHECK(contour_smoothed_vertex(NULL, 0, 1, 1, 1, NULL, 0, NULL, 0, 0, 0, 0, &a, &x, &b, &y) ==
+          CONTOUR_BAD_VALUE_COUNT);
+    CHECK(contour_smoothed_vertex(one, 1, 1, 1, 1, NULL, 0, NULL, 0, 0, 0, 0, &a, &x, &b, &y) == CONTOUR_NOT_THERE);
     CHECK(contour_geojson_length(NULL, 0, NULL, 0, 0, &length) == CONTOUR_OK && length == 40);
     CHECK(contour_geojson(NULL, 0, NULL, 0, 0, NULL, 0, &length) == CONTOUR_TEXT_SHORT);
     CHECK(contour_geojson(NULL, 0, NULL, 0, 0, room, sizeof room, &length) == CONTOUR_OK);
@@ -273,7 +331,7 @@ static void try_null(void) {
 
 /* Each number has words of its own. */
 static void try_words(void) {
-    const uint32_t numbers[] = {0, 1, 2, 3, 4, 5, 6, 7, 8, 9, 10, 11, 13, 14, CONTOUR_NO_MEMORY, 1000};
+    const uint32_t numbers[] = {0, 1, 2, 3, 4, 5, 6, 7, 8, 9, 10, 11, 13, 14, 15, CONTOUR_NO_MEMORY, 1000};
     const size_t count = sizeof numbers / sizeof *numbers;
     char version[32];
     for (size_t k = 0; k < count; k++) {

@@ -179,6 +179,46 @@ extern "C" {
         text_bytes: usize,
         length: *mut u64,
     ) -> u32;
+    pub fn contour_ring_fate(
+        points: *const u16,
+        points_words: usize,
+        directory: *const u32,
+        directory_words: usize,
+        rings: u32,
+        ring: u32,
+        ring_class: *mut u32,
+        owner: *mut u32,
+        vertex: *mut u32,
+    ) -> u32;
+    pub fn contour_polygon_answer(
+        points: *const u16,
+        points_words: usize,
+        directory: *const u32,
+        directory_words: usize,
+        rings: u32,
+        polygon: u32,
+        ring: u32,
+        answer: *mut i32,
+        vertex: *mut u32,
+    ) -> u32;
+    pub fn contour_smoothed_vertex(
+        values: *const f64,
+        count: usize,
+        threshold: f64,
+        dx: usize,
+        dy: usize,
+        points: *const u16,
+        points_words: usize,
+        directory: *const u32,
+        directory_words: usize,
+        rings: u32,
+        ring: u32,
+        vertex: u32,
+        x_kind: *mut u32,
+        x_fraction: *mut f64,
+        y_kind: *mut u32,
+        y_fraction: *mut f64,
+    ) -> u32;
     pub fn contour_area(ring: *const u16, ring_words: usize, area: *mut i64) -> u32;
     pub fn contour_contains(
         outer: *const u16,

@@ -1,7 +1,8 @@
 //! Polygons with their holes as GeoJSON text, out of the tables or out of vectors.
 
 use crate::drawn::{Rings, HOLE, NO_OWNER, POLYGON};
-use crate::{ffi, Point, Refusal, Regions};
+use crate::ring_set::{read, word};
+use crate::{Point, Refusal, Regions};
 
 /// Polygons, drawn or made by hand, as GeoJSON text of the form of
 /// [`contours_geojson`](crate::Terrain::contours_geojson). They are written in the order of the lists, whatever
@@ -43,28 +44,6 @@ pub fn check(regions: &Regions) -> Result<(), Refusal> {
     Packed::of(regions)?.rings().check()
 }
 
-/// Calls a function that reads a ring set, with what else it takes.
-macro_rules! call {
-    ($set:expr, $function:ident $(, $rest:expr)* $(,)?) => {{
-        let Rings {
-            points, directory, ..
-        } = *$set;
-        let rings = word(directory.len())?;
-        // Safety: the library reads the points and the directory and writes the text and the length lent,
-        // within the lengths passed beside them.
-        Refusal::of(unsafe {
-            ffi::$function(
-                points.as_ptr().cast(),
-                2 * points.len(),
-                directory.as_ptr().cast(),
-                4 * directory.len(),
-                rings,
-                $($rest),*
-            )
-        })
-    }};
-}
-
 impl Rings<'_> {
     /// The polygons with their holes, those of a contour or a band, as GeoJSON text of the form of
     /// [`contours_geojson`](crate::Terrain::contours_geojson).
@@ -100,14 +79,14 @@ impl Rings<'_> {
     pub fn write_geojson(&self, text: &mut Vec<u8>) -> Result<(), Refusal> {
         let mut length = 0;
         text.clear();
-        call!(self, contour_geojson_length, &mut length)?;
+        read!(contour_geojson_length, self, &mut length)?;
         text.resize(length as usize, 0);
         let room = text.len();
-        call!(self, contour_geojson, text.as_mut_ptr(), room, &mut length)
+        read!(contour_geojson, self, text.as_mut_ptr(), room, &mut length)
     }
 
     fn check(&self) -> Result<(), Refusal> {
-        call!(self, contour_check)
+        read!(contour_check, self)
     }
 }
 
@@ -149,9 +128,4 @@ impl Packed {
             first: 0,
         }
     }
-}
-
-/// A number as a word of the directory. A set that is too large for one is no set that the library takes.
-fn word(number: usize) -> Result<u32, Refusal> {
-    u32::try_from(number).map_err(|_| Refusal::RingSet)
 }

@@ -3,7 +3,8 @@
 //!
 //! A [`Terrain`] is its values and sides. Its own functions hand out plain vectors. [`Tables`] keeps what the
 //! library is lent from call to call, and hands out rings as slices that it lends in turn, with the number,
-//! class and owner of each. [`Rows`] takes a terrain that comes row by row and is never held.
+//! class and owner of each; [`Rings::fate`] says why a ring of a contour has them. [`Rows`] takes a terrain that
+//! comes row by row and is never held.
 //!
 //! Coordinates are doubled whole numbers: sample (column, row) stands at (2·column + 1, 2·row + 1). Those of
 //! lines are floats.
@@ -30,9 +31,11 @@ mod ffi;
 mod geojson;
 mod refusal;
 mod regions;
+mod ring_set;
 mod rows;
 mod tables;
 mod terrain;
+mod why;
 
 pub use drawn::{Drawn, Fate, Lines, Record, Rings};
 pub use geojson::{check, geojson};
@@ -41,6 +44,7 @@ pub use regions::{Polygon, Regions, Ring};
 pub use rows::Rows;
 pub use tables::Tables;
 pub use terrain::{Placement, Terrain, SIDE_LIMIT};
+pub use why::{Coordinate, Decision, RingFate};
 
 /// The examples of README.md.
 #[cfg(doctest)]

@@ -21,6 +21,9 @@ pub enum Refusal {
     Row,
     /// 14: a row after the last, an end before the last row, or a second end.
     Turn,
+    /// 15: there is no ring or vertex of this number, or the vertex does not stand midway between two
+    /// neighbouring samples of which at least one is in the terrain.
+    NotThere,
     /// A number that these calls do not draw, since every table has the room that is needed.
     Other(u32),
 }
@@ -37,6 +40,7 @@ impl Refusal {
             Refusal::Ring => 11,
             Refusal::Row => 13,
             Refusal::Turn => 14,
+            Refusal::NotThere => 15,
             Refusal::Other(number) => number,
         }
     }
@@ -57,6 +61,7 @@ impl Refusal {
             11 => "a ring is empty, has over 67,108,864 points or a coordinate above 8,192",
             13 => "the row has not a value for each column",
             14 => "all rows are there already, or not yet, or the end was taken",
+            15 => "there is no ring or vertex of this number, or the vertex stands between no samples",
             _ => "no refusal of these calls",
         }
     }
@@ -73,6 +78,7 @@ impl Refusal {
             11 => Err(Refusal::Ring),
             13 => Err(Refusal::Row),
             14 => Err(Refusal::Turn),
+            15 => Err(Refusal::NotThere),
             other => Err(Refusal::Other(other)),
         }
     }

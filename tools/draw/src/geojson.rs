@@ -108,8 +108,7 @@ pub fn write_ring_feature(
 ) -> Result<(), Failure> {
     write_heights(out, slice)?;
     let Placement { x_step, y_step, .. } = placement.unwrap_or_default();
-    let squares = nigrulent::area(ring.points)? as f64 / 8.0;
-    let area = number(squares * (x_step * y_step).abs());
+    let area = number(shapes::ring_area(ring.points)? * (x_step * y_step).abs());
     write!(
         out,
         ",\"ring\":{},\"area\":{area}}},\"geometry\":",
@@ -136,7 +135,7 @@ fn write_heights(out: &mut dyn Write, slice: Slice) -> io::Result<()> {
 
 /// The points of a ring in the units of columns and rows.
 fn halves(ring: &[Point]) -> impl DoubleEndedIterator<Item = Vertex> + '_ {
-    ring.iter().map(|point| point.map(|at| f64::from(at) / 2.0))
+    ring.iter().copied().map(shapes::half)
 }
 
 /// A number of JSON, which has none that is infinite: a band without a bound has null there.

@@ -1,5 +1,6 @@
 //! Draws the contours, the bands or the lines of a terrain that it reads from a file, and writes them as GeoJSON,
-//! as a picture or as counts: help.txt. The library draws, and writes the GeoJSON of polygons in grid units.
+//! as a picture or as counts, or says what became of their rings: help.txt. The library draws, explains, and writes
+//! the GeoJSON of polygons in grid units.
 
 mod axis;
 mod called;
@@ -23,6 +24,7 @@ mod shapes;
 mod source;
 mod stream;
 mod terrain;
+mod why;
 mod words;
 
 use failure::Failure;
@@ -95,6 +97,7 @@ fn draw_whole(out: &mut dyn Write, options: &Options) -> Result<(), Failure> {
         Form::Svg => picture::write(out, &terrain, &slices, options),
         Form::Png => png::write(|out| picture::write(out, &terrain, &slices, options)),
         Form::Counts => counts::write(out, &terrain, &slices, options),
+        Form::Why(ring) => why::write(out, &terrain, &slices, ring),
         Form::GeoJson | Form::Stream => geojson::write(out, &terrain, &slices, options),
     }
 }

@@ -46,6 +46,8 @@ pub enum Form {
     Counts,
     /// Each ring as it closes, while the file is read.
     Stream,
+    /// What became of the ring of this number, or of each.
+    Why(Option<u64>),
 }
 
 /// Where figures stand, if not where the file says.
@@ -110,6 +112,7 @@ fn wanted(words: &Words, numbers: &[OsString]) -> Result<Wanted, String> {
     words.exclude("--levels", "--bands")?;
     // Its multiples go by the lowest and the highest sample.
     words.exclude("--stream", "--interval")?;
+    check_why(words, numbers.len())?;
     let (levels, bands) = (words.has("--levels"), words.has("--bands"));
     if let Some(step) = words.number("--interval")? {
         return match (numbers, step > 0.0) {
@@ -129,7 +132,7 @@ fn wanted(words: &Words, numbers: &[OsString]) -> Result<Wanted, String> {
     };
     let heights = heights(numbers, names)?;
     match heights.len() {
-        0 => return Err("THRESHOLD is missing".to_owned()),
+        0 => return Err(no_threshold(words)),
         1 if bands => return Err("--bands wants two thresholds or more".to_owned()),
         count @ 3.. if !levels && !bands => {
             return Err(format!(
@@ -143,6 +146,27 @@ fn wanted(words: &Words, numbers: &[OsString]) -> Result<Wanted, String> {
         bands: bands || is_band,
         collected: levels || bands,
     })
+}
+
+/// Whether there is one threshold at which rings are to be explained.
+fn check_why(words: &Words, thresholds: usize) -> Result<(), String> {
+    for name in ["--levels", "--bands", "--interval"] {
+        words.exclude("--why", name)?;
+    }
+    match words.has("--why") && thresholds > 1 {
+        true => Err(format!(
+            "--why goes with one THRESHOLD, and there are {thresholds}; its N is a whole number"
+        )),
+        false => Ok(()),
+    }
+}
+
+/// What is said where there is no threshold: the word behind --why may have been meant for it.
+fn no_threshold(words: &Words) -> String {
+    match words.value("--why") {
+        Some(number) => format!("THRESHOLD is missing: {number} is the N of --why"),
+        None => "THRESHOLD is missing".to_owned(),
+    }
 }
 
 /// Numbers that ascend.
@@ -172,6 +196,7 @@ fn figure(words: &Words, bands: bool) -> Result<Figure, String> {
     words.exclude("--isobands", "--lines")?;
     for name in ["--isobands", "--lines", "--smooth"] {
         words.exclude("--stream", name)?;
+        words.exclude("--why", name)?;
     }
     let (lines, smooth) = (words.has("--lines"), words.has("--smooth"));
     match (lines, smooth, words.has("--isobands")) {
@@ -189,6 +214,7 @@ fn form(words: &Words) -> Result<Form, String> {
         ("--png", Form::Png),
         ("--counts", Form::Counts),
         ("--stream", Form::Stream),
+        ("--why", Form::Why(words.whole("--why")?)),
     ];
     for (k, (name, _)) in forms.iter().enumerate() {
         for (other, _) in &forms[k + 1..] {
@@ -200,10 +226,14 @@ fn form(words: &Words) -> Result<Form, String> {
 }
 
 fn place(words: &Words) -> Result<Place, String> {
-    words.exclude("--grid", "--origin")?;
-    words.exclude("--grid", "--step")?;
+    // What is said of rings is in grid units.
+    let in_grid_units = ["--grid", "--why"];
+    for name in in_grid_units {
+        words.exclude(name, "--origin")?;
+        words.exclude(name, "--step")?;
+    }
     let place = Place {
-        grid: words.has("--grid"),
+        grid: in_grid_units.into_iter().any(|name| words.has(name)),
         origin: words.pair("--origin")?,
         step: words.pair("--step")?,
     };

@@ -1,7 +1,7 @@
 //! Rings as the paths of a picture, in hundredths of a pixel, by steps from point to point.
 
 use crate::layout::Layout;
-use crate::shapes::Line;
+use crate::shapes::{half, Line};
 use nigrulent::{Polygon, Regions, Vertex};
 use std::io::{self, Write};
 
@@ -11,13 +11,7 @@ pub const UNIT: f64 = 0.01;
 /// All rings of some polygons in half steps, as steps.
 pub fn rings(regions: &Regions) -> impl Iterator<Item = Line> + '_ {
     let rings = regions.polygons.iter().flat_map(Polygon::rings);
-    rings.map(|ring| {
-        let halves = ring
-            .points
-            .iter()
-            .map(|point| point.map(|at| f64::from(at) / 2.0));
-        halves.collect()
-    })
+    rings.map(|ring| ring.points.iter().copied().map(half).collect())
 }
 
 /// Writes rings as the steps of one path.

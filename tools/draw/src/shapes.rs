@@ -4,7 +4,7 @@
 use crate::levels::Slice;
 use crate::options::Figure;
 use crate::terrain::Terrain;
-use nigrulent::{Placement, Refusal, Regions, Vertex};
+use nigrulent::{Placement, Point, Refusal, Regions, Rings, Tables, Vertex};
 use std::borrow::Cow;
 
 /// A line's vertices, the first repeated last.
@@ -23,7 +23,17 @@ pub fn polygons(terrain: &Terrain, slice: Slice, figure: Figure) -> Result<Regio
     }
 }
 
-/// The same as GeoJSON in grid units, in the library's own words.
+/// The rings about the samples of a slice, with class and owner, in tables.
+pub fn contour<'t>(
+    tables: &'t mut Tables,
+    terrain: &Terrain,
+    slice: Slice,
+) -> Result<Rings<'t>, Refusal> {
+    let (values, threshold) = sheet(&terrain.values, slice);
+    tables.contours(&of_values(terrain, &values)?, threshold)
+}
+
+/// The polygons as GeoJSON in grid units, in the library's own words.
 pub fn polygons_text(terrain: &Terrain, slice: Slice, figure: Figure) -> Result<String, Refusal> {
     match (slice, figure) {
         (Slice::Between(low, high), Figure::Isobands) => {
@@ -62,6 +72,16 @@ pub fn sheet(values: &[f64], slice: Slice) -> (Cow<'_, [f64]>, f64) {
 fn indicator(values: &[f64], inside: impl Fn(f64) -> bool) -> Vec<f64> {
     let inside = values.iter().map(|value| inside(*value));
     inside.map(|inside| f64::from(u8::from(inside))).collect()
+}
+
+/// A point of a ring in the units of columns and rows.
+pub fn half(point: Point) -> Vertex {
+    point.map(|at| f64::from(at) / 2.0)
+}
+
+/// What a ring encloses, in squares of one step from sample to sample; of a hole it is below 0.
+pub fn ring_area(ring: &[Point]) -> Result<f64, Refusal> {
+    Ok(nigrulent::area(ring)? as f64 / 8.0)
 }
 
 /// What polygons enclose, holes left out, in squares of one step from sample to sample.

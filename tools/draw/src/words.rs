@@ -1,9 +1,9 @@
 //! The words of a command line, sorted into options, their values, and the rest.
 
-use std::ffi::OsString;
+use std::ffi::{OsStr, OsString};
 
-/// The options without a value.
-const FLAGS: [&str; 13] = [
+/// The options without a value, or whose value may be left out.
+const FLAGS: [&str; 14] = [
     "--bands",
     "--counts",
     "--grid",
@@ -16,16 +16,18 @@ const FLAGS: [&str; 13] = [
     "--stream",
     "--svg",
     "--version",
+    "--why",
     "-h",
 ];
 
 /// The options with a value, and what it is called.
-const VALUED: [(&str, &str); 6] = [
+const VALUED: [(&str, &str); 7] = [
     ("--height", "PIXELS"),
     ("--interval", "N"),
     ("--origin", "X,Y"),
     ("--step", "X,Y"),
     ("--title", "TEXT"),
+    ("--why", "N"),
     ("--width", "PIXELS"),
 ];
 
@@ -39,12 +41,13 @@ pub struct Words {
 }
 
 impl Words {
-    /// Sorts the words of a command line. An option's value stands behind '=', or is the next word.
+    /// Sorts the words of a command line. An option's value stands behind '=', or is the next word; one that may be
+    /// left out is the next word only where that is a whole number.
     pub fn sort(words: impl IntoIterator<Item = OsString>) -> Result<Self, String> {
         let mut sorted = Words::default();
-        let mut words = words.into_iter();
+        let mut words = words.into_iter().peekable();
         while let Some(word) = words.next() {
-            let text = word.to_string_lossy().into_owned();
+            let text = text_of(&word);
             let (name, value) = match text.split_once('=') {
                 Some((name, value)) if name.starts_with("--") => (name, Some(value.to_owned())),
                 _ => (text.as_str(), None),
@@ -53,10 +56,16 @@ impl Words {
             let valued = VALUED.into_iter().find(|(valued, _)| *valued == name);
             match (flag, valued, value) {
                 (Some("-h"), _, None) => sorted.flags.push("--help"),
-                (Some(flag), _, None) => sorted.flags.push(flag),
-                (Some(flag), _, Some(_)) => return Err(format!("{flag} takes no value")),
-                (None, Some((name, what)), value) => {
-                    let next = || words.next().map(|word| word.to_string_lossy().into_owned());
+                (Some(flag), None, None) => sorted.flags.push(flag),
+                (Some(flag), None, Some(_)) => return Err(format!("{flag} takes no value")),
+                (Some(flag), Some(_), None) => {
+                    match words.next_if(|word| is_whole(&text_of(word))) {
+                        Some(word) => sorted.values.push((flag, text_of(&word))),
+                        None => sorted.flags.push(flag),
+                    }
+                }
+                (_, Some((name, what)), value) => {
+                    let next = || words.next().map(|word| text_of(&word));
                     let value = value.or_else(next).ok_or(format!("{name} wants {what}"))?;
                     sorted.values.push((name, value));
                 }
@@ -102,6 +111,15 @@ impl Words {
         value.transpose()
     }
 
+    /// An option's value as a whole number; one that no word can hold is as good as the largest.
+    pub fn whole(&self, name: &str) -> Result<Option<u64>, String> {
+        let value = self.value(name).map(|text| match is_whole(text) {
+            true => Ok(text.parse().unwrap_or(u64::MAX)),
+            false => Err(format!("{name} wants a whole number, not '{text}'")),
+        });
+        value.transpose()
+    }
+
     /// An option's value as two finite numbers.
     pub fn pair(&self, name: &str) -> Result<Option<(f64, f64)>, String> {
         let value = self.value(name).map(|text| {
@@ -117,6 +135,14 @@ impl Words {
         });
         value.transpose()
     }
+}
+
+fn text_of(word: &OsStr) -> String {
+    word.to_string_lossy().into_owned()
+}
+
+fn is_whole(text: &str) -> bool {
+    !text.is_empty() && text.bytes().all(|byte| byte.is_ascii_digit())
 }
 
 /// Whether a word that is none of ours is meant as an option. Numbers below 0 are not, nor is '-'.
