@@ -14,6 +14,8 @@ mod rows;
 mod terrains;
 mod texts;
 mod theirs;
+#[cfg(feature = "why")]
+mod why;
 
 use ours::Drawn;
 use std::time::{Duration, Instant};
@@ -52,6 +54,10 @@ fn main() {
     closing.extend(terrains::ROWS.map(|rows| rows::bench(rows, runs)));
     #[cfg(not(feature = "rows"))]
     println!("the row form is not in the library: not timed");
+    #[cfg(feature = "why")]
+    closing.extend(terrains::WHY.map(|why| why::bench(why, runs)));
+    #[cfg(not(feature = "why"))]
+    println!("the fate of a ring is not in the library: not timed");
     if !cfg!(feature = "regions") {
         println!("contours and bands are not in the library: not timed");
     }

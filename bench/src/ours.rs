@@ -181,31 +181,47 @@ fn draw_lines(
     assert!(number == 0, "refusal {number}");
 }
 
+/// Calls a function that reads the ring set of a contour or band, with what else it takes.
+#[cfg(feature = "geojson")]
+macro_rules! call_on_set {
+    ($drawn:expr, $function:ident $(, $rest:expr)*) => {{
+        let words = match &$drawn.points {
+            Points::Words(words) => words,
+            Points::Floats(_) => unreachable!("lines are no ring set"),
+        };
+        let directory = &$drawn.directory;
+        let number = unsafe {
+            $function(words.as_ptr(), words.len(), directory.as_ptr(), directory.len(), $drawn.rings $(, $rest)*)
+        };
+        assert!(number == 0, "refusal {number}");
+    }};
+}
+
 /// The text of a contour or band: its length sizes the room, then it is written.
 #[cfg(feature = "geojson")]
 pub fn text(drawn: &Drawn) -> Vec<u8> {
-    let words = match &drawn.points {
-        Points::Words(words) => words,
-        Points::Floats(_) => unreachable!("lines are no ring set"),
-    };
-    let (points, directory) = (words.as_ptr(), drawn.directory.as_ptr());
-    let [points_words, directory_words] = [words.len(), drawn.directory.len()];
     let mut length = 0;
-    macro_rules! call {
-        ($function:ident, $($rest:expr),*) => {{
-            let number = unsafe {
-                $function(points, points_words, directory, directory_words, drawn.rings, $($rest),*)
-            };
-            assert!(number == 0, "refusal {number}");
-        }};
-    }
-    call!(contour_geojson_length, &mut length);
+    call_on_set!(drawn, contour_geojson_length, &mut length);
     let mut text = vec![0; length as usize];
-    call!(contour_geojson, text.as_mut_ptr(), text.len(), &mut length);
+    call_on_set!(drawn, contour_geojson, text.as_mut_ptr(), text.len(), &mut length);
     text
 }
 
 #[cfg(not(feature = "geojson"))]
 pub fn text(_: &Drawn) -> Vec<u8> {
     unreachable!("no writer in the library")
+}
+
+/// The check of a contour or band, which reads every point.
+#[cfg(feature = "why")]
+pub fn check(drawn: &Drawn) {
+    call_on_set!(drawn, contour_check);
+}
+
+/// The class and the owner of a ring, worked out anew.
+#[cfg(feature = "why")]
+pub fn fate(drawn: &Drawn, ring: u32) -> [u32; 2] {
+    let (mut class, mut owner, mut vertex) = (0, 0, 0);
+    call_on_set!(drawn, contour_ring_fate, ring, &mut class, &mut owner, &mut vertex);
+    [class, owner]
 }

@@ -75,7 +75,7 @@ pub const LINES: [Line; 15] = [
     ("lines-noise-2048", || noise(2_048, 2_048), Lines(0.5), Crate),
 ];
 
-/// A line that times the writer: its name, its terrain, and the threshold of the contour that is written.
+/// A line that times the writer, or a ring's fate: its name, its terrain, and the threshold of the contour.
 pub type Text = (&'static str, fn() -> Terrain, f64);
 
 pub const TEXTS: [Text; 2] = [
@@ -93,6 +93,14 @@ pub const ROWS: [Rows; 4] = [
     ("rows-waves-2048", || waves(2_048), 0.1),
     ("rows-noise-2048", || noise(2_048, 2_048), 0.5),
     ("rows-noise-4-4096", || noise(4, 4_096), 0.5),
+];
+
+/// The contours of which a ring's fate is timed.
+#[cfg(feature = "why")]
+pub const WHY: [Text; 3] = [
+    ("why-512", || noise(512, 512), 0.5),
+    ("why-1024", || noise(1_024, 1_024), 0.5),
+    ("why-2048", || noise(2_048, 2_048), 0.5),
 ];
 
 impl Terrain {
