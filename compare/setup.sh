@@ -87,6 +87,9 @@ find_features() {
     if library_has contour_rows_row; then
         features+=(--features rows)
     fi
+    if library_has contour_ring_fate; then
+        features+=(--features why)
+    fi
 }
 
 # A command of cargo for a package, Debian's own whatever else is on the path, with no settings of the user's. The

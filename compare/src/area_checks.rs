@@ -8,7 +8,7 @@ use crate::{ffi, oracle};
 
 /// Rings with all vertices on each other answer 0 at every vertex, so a pair costs up to the product of
 /// the point counts; pairs above this are left out.
-const DEAREST_PAIR: usize = 200_000;
+pub const DEAREST_PAIR: usize = 200_000;
 /// The longest side of a terrain.
 const LONGEST_SIDE: usize = 4_096;
 
@@ -100,7 +100,7 @@ fn compare_grid(tally: &mut Tally, random: &mut Random, grid: &Grid, share: &Sha
 }
 
 /// All numbers below n if at most `share`, else that many at random.
-fn spread(random: &mut Random, n: usize, share: usize) -> Vec<usize> {
+pub fn spread(random: &mut Random, n: usize, share: usize) -> Vec<usize> {
     if n <= share {
         (0..n).collect()
     } else {

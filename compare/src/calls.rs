@@ -107,7 +107,7 @@ fn compare_call(
 }
 
 /// What was lent to be read, which no call may change.
-fn compare_lent(tally: &mut Tally, asked: &Asked) {
+pub fn compare_lent(tally: &mut Tally, asked: &Asked) {
     let difference = (!asked.is_still()).then(|| "a change of the numbers lent".to_string());
     tally.holds(difference, || {
         format!("after all calls, {}", described(asked))

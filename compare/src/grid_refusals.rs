@@ -30,21 +30,28 @@ pub const SIDES: [usize; 11] = [
 /// place after passes the word's end.
 const PLACES: [usize; 9] = [0, 1, 2, 3, 4, 1 << 32, 1 << 63, usize::MAX - 1, usize::MAX];
 /// The most values that are lent for a refused call. The crate takes long over the regions of many rings.
-const MOST_VALUES: usize = 20_000;
+pub const MOST_VALUES: usize = 20_000;
 const MOST_REGION_VALUES: usize = 1_000;
 const TRIES: usize = 20_000;
 
 /// Every pair of sides with the counts about their product.
 pub fn listed(tally: &mut Tally, random: &mut Random, kind: Kind) {
-    for dx in SIDES {
-        for dy in SIDES {
-            let product = dx.wrapping_mul(dy);
-            let about = [product.wrapping_sub(1), product, product.wrapping_add(1)];
-            for count in about.into_iter().chain([0, 1, dx, dy]) {
-                compare_count(tally, random, kind, [dx, dy, count]);
-            }
-        }
+    for shape in listed_shapes() {
+        compare_count(tally, random, kind, shape);
     }
+}
+
+/// The same as columns, rows and number of values.
+pub fn listed_shapes() -> impl Iterator<Item = [usize; 3]> {
+    let sides = SIDES
+        .iter()
+        .flat_map(|&dx| SIDES.iter().map(move |&dy| (dx, dy)));
+    sides.flat_map(|(dx, dy)| {
+        let product = dx.wrapping_mul(dy);
+        let about = [product.wrapping_sub(1), product, product.wrapping_add(1)];
+        let counts = about.into_iter().chain([0, 1, dx, dy]);
+        counts.map(move |count| [dx, dy, count])
+    })
 }
 
 /// Lists of none to three thresholds with every place, on terrains that pass and on some that do not.
@@ -69,20 +76,26 @@ pub fn listed_pairs(tally: &mut Tally, random: &mut Random) {
 /// Small sides, counts and rooms, each of which is often wrong.
 pub fn mixed(tally: &mut Tally, random: &mut Random, kind: Kind) {
     for _ in 0..TRIES {
-        let [dx, dy] = [0; 2].map(|_| match random.below(8) {
-            0 => 0,
-            1 => random.pick(&[4_096, 4_097, 1 << 32, usize::MAX]),
-            _ => random.between(1, 6),
-        });
-        let product = dx.wrapping_mul(dy);
-        let count = match random.below(6) {
-            0 => product.wrapping_sub(1),
-            1 => product.wrapping_add(1),
-            2 => random.below(40),
-            _ => product,
-        };
-        compare_count(tally, random, kind, [dx, dy, count]);
+        let shape = mixed_shape(random);
+        compare_count(tally, random, kind, shape);
     }
+}
+
+/// Small columns, rows and number of values, each of which is often wrong.
+pub fn mixed_shape(random: &mut Random) -> [usize; 3] {
+    let [dx, dy] = [0; 2].map(|_| match random.below(8) {
+        0 => 0,
+        1 => random.pick(&[4_096, 4_097, 1 << 32, usize::MAX]),
+        _ => random.between(1, 6),
+    });
+    let product = dx.wrapping_mul(dy);
+    let count = match random.below(6) {
+        0 => product.wrapping_sub(1),
+        1 => product.wrapping_add(1),
+        2 => random.below(40),
+        _ => product,
+    };
+    [dx, dy, count]
 }
 
 /// A terrain of so many columns, rows and values, if these are not too many; for a band a list of none to
@@ -113,7 +126,8 @@ fn compare_count(tally: &mut Tally, random: &mut Random, kind: Kind, shape: [usi
     }
 }
 
-fn speckled(random: &mut Random, [dx, dy, count]: [usize; 3]) -> Grid {
+/// Zeros and some ones.
+pub fn speckled(random: &mut Random, [dx, dy, count]: [usize; 3]) -> Grid {
     let few = random.between(1, 9);
     Grid {
         dx,

@@ -34,6 +34,15 @@ impl<T: Copy + PartialEq> Guarded<T> {
         self.all[GUARDS..].as_ptr()
     }
 
+    /// The same for one who may be lent NULL: nowhere if there are no numbers.
+    #[cfg(any(feature = "geojson", feature = "why"))]
+    pub fn place(&self) -> *const T {
+        match self.count() {
+            0 => std::ptr::null(),
+            _ => self.at(),
+        }
+    }
+
     pub fn count(&self) -> usize {
         self.all.len() - 2 * GUARDS
     }

@@ -161,7 +161,7 @@ fn greatest_divisor(a: i32, b: i32) -> i32 {
 
 /// A walk in drawn steps and standstills that ends where it began, inside the limits. In one of two the
 /// last point is left out, unless it is the only one, so that the closing pair is a drawn step too.
-fn walk(random: &mut Random) -> Vec<u16> {
+pub fn walk(random: &mut Random) -> Vec<u16> {
     let far = i32::from(LARGEST);
     let corner = random.pick(&[0, 1, 500, far - 42, far - 1]);
     let home = [0; 2].map(|_| (corner + random.below(40) as i32).min(far));

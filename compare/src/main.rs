@@ -1,6 +1,6 @@
 //! Asks the crate and our static library the same questions and counts the answers that differ. What is
-//! expected comes from the crate or from `exact`, `counts`, `row_drawing`, `ring_sets`, `geojson`, `word_text` and
-//! `program_inputs`, which are document 01 written down once more. Here stands what the command line asks for;
+//! expected comes from the crate or from `exact`, `counts`, `row_drawing`, `ring_sets`, `geojson`, `word_text`, `moves`
+//! and `program_inputs`, which are document 01 written down once more. Here stands what the command line asks for;
 //! `parts` has the parts.
 
 mod answers;
@@ -13,16 +13,23 @@ mod directory;
 mod drawing;
 mod entries;
 mod exact;
+#[cfg(feature = "why")]
+mod fates;
 mod ffi;
 mod geojson;
 mod grid_refusals;
 mod guarded;
 mod kinds;
 mod lent;
+mod lent_sets;
 mod line_answers;
 mod line_checks;
 mod lines;
 mod lists;
+#[cfg(feature = "why")]
+mod made_sets;
+#[cfg(feature = "why")]
+mod moves;
 mod nested;
 mod oracle;
 mod parts;
@@ -52,6 +59,20 @@ mod shapes;
 mod tally;
 mod text_calls;
 mod text_checks;
+#[cfg(feature = "why")]
+mod why_calls;
+#[cfg(feature = "why")]
+mod why_checks;
+#[cfg(feature = "why")]
+mod why_entries;
+#[cfg(feature = "why")]
+mod why_parts;
+#[cfg(feature = "why")]
+mod why_refusals;
+#[cfg(feature = "why")]
+mod why_sets;
+#[cfg(feature = "why")]
+mod why_vertices;
 mod word_text;
 
 /// The functions of our library, declared once for all who call it from Rust.

@@ -7,6 +7,8 @@ use crate::program::Program;
 use crate::random::Random;
 use crate::tally::Tally;
 use crate::text_checks::compare_drawn;
+#[cfg(feature = "why")]
+use crate::why_parts;
 use crate::{
     area_checks, bounds, grid_refusals, line_checks, lists, printed, refusals, region_checks,
     ring_checks, set_faults, text_checks,
@@ -57,6 +59,10 @@ impl Plan {
         } else {
             tally.lacks("the GeoJSON writer is not in the library: not compared");
         }
+        #[cfg(feature = "why")]
+        why_parts::compare(tally, &mut self.random(7), self.rounds);
+        #[cfg(not(feature = "why"))]
+        tally.lacks("the calls that explain are not in the library: not compared");
         if self.program.is_empty() {
             tally.lacks("there is no program contour_geojson: not compared");
         } else {
@@ -160,7 +166,7 @@ impl Plan {
         let random = &mut self.random(3);
         let mut grids = 0;
         tally.part("lines, all two-valued grids of up to 12 samples", |t| {
-            grids += line_checks::all_small_grids(t, random)
+            grids += line_checks::all_small_grids(t, random, line_checks::compare_grid)
         });
         tally.part("lines, every smoothing and placement", |t| {
             grids += line_checks::every_pen(t, random)
@@ -169,15 +175,7 @@ impl Plan {
             grid_refusals::listed(t, random, Kind::Lines)
         });
         for _ in 0..self.rounds {
-            tally.part("lines, small grids", |t| {
-                grids += line_checks::random_small_grids(t, random)
-            });
-            tally.part("lines, every shape up to 64 by 64", |t| {
-                grids += line_checks::every_shape(t, random)
-            });
-            tally.part("lines, thin grids", |t| {
-                grids += line_checks::thin_grids(t, random)
-            });
+            grids += line_checks::random_parts(tally, random, "lines", line_checks::compare_grid);
             tally.part("lines, several refusals at once", |t| {
                 grid_refusals::mixed(t, random, Kind::Lines)
             });
@@ -310,7 +308,9 @@ fn listed_texts(tally: &mut Tally, random: &mut Random) -> u64 {
     tally.part("GeoJSON, every coordinate", |t| {
         text_checks::every_coordinate(t, random)
     });
-    tally.part("GeoJSON, refusal 9", |t| set_faults::listed(t, random));
+    tally.part("GeoJSON, refusal 9", |t| {
+        set_faults::listed(t, random, text_checks::compare_any)
+    });
     grids
 }
 
@@ -330,7 +330,7 @@ fn random_texts(tally: &mut Tally, random: &mut Random) -> u64 {
         text_checks::any_sets(t, random)
     });
     tally.part("GeoJSON, damaged ring sets", |t| {
-        set_faults::damaged(t, random)
+        set_faults::damaged(t, random, text_checks::compare_any)
     });
     grids
 }

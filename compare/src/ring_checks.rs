@@ -1,5 +1,5 @@
 //! The two reports and `contour_rings` on whole terrains: every answer and every word of every table. Most of the
-//! terrains are compared row by row too.
+//! terrains are compared row by row too, and some by their rings' fates.
 
 use crate::asked::Asked;
 use crate::calls::{compare_asked, compare_exact};
@@ -10,7 +10,7 @@ use crate::rings::{flat_grid, random_grid, small_grids, Grid};
 use crate::shapes::{self, LONGEST_SIDE};
 use crate::tally::Tally;
 
-/// What a terrain is compared by: all of it at once, or row by row.
+/// What a terrain is compared by: all of it at once, row by row, its fates, its lines, or its smoothed vertices.
 pub type Compare = fn(&mut Tally, &mut Random, &Grid);
 
 /// How many small grids of random shape a round draws.

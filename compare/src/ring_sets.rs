@@ -1,6 +1,7 @@
-//! Ring sets, as the writer reads them: points, a directory and the number of rings stated. What document 01 says
-//! of one is written down here from its records: number 9, and which polygons they make. Their text is written by two
-//! writers, `word_text` and `geojson`, and the latter also writes that of the crate's own polygons.
+//! Ring sets, as the writer and the calls that explain read them: points, a directory and the number of rings stated.
+//! What document 01 says of one is written down here from its records: number 9, and which polygons they make. Their
+//! text is written by two writers, `word_text` and `geojson`, and the latter also writes that of the crate's own
+//! polygons.
 
 use crate::directory::{HOLE, NOBODY, POLYGON};
 use crate::drawing::Drawing;
@@ -104,6 +105,22 @@ impl RingSet {
     fn ring(&self, [first, count, ..]: &Record) -> Option<&[u16]> {
         let [first, count] = [first, count].map(|&number| 2 * number as usize);
         self.lent_points().get(first..first + count)
+    }
+
+    /// The point of a stated ring's vertex, if the set, which is without fault, has both.
+    #[cfg(feature = "why")]
+    pub fn vertex(&self, ring: u32, vertex: u32) -> Option<[u16; 2]> {
+        let record = self.lent_directory().chunks_exact(4).nth(ring as usize);
+        let record = record.filter(|record| ring < self.rings && vertex < record[1])?;
+        let word = 2 * (record[0] + vertex) as usize;
+        Some([self.points[word], self.points[word + 1]])
+    }
+
+    /// The words of each stated ring of a set without fault.
+    #[cfg(feature = "why")]
+    pub fn stated(&self) -> Vec<&[u16]> {
+        let records = self.records();
+        records.iter().filter_map(|r| self.ring(r)).collect()
     }
 
     /// The polygons of a set without fault, by record number, each its own ring and then its holes by number.

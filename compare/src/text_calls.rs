@@ -3,14 +3,11 @@
 
 #[cfg(feature = "geojson")]
 use crate::declared::{contour_check, contour_geojson, contour_geojson_length};
-use crate::guarded::Guarded;
+use crate::lent_sets::{described, LentSet};
 use crate::random::Random;
 use crate::ring_sets::{RingSet, FAULTY, SHORT};
-use crate::tally::{listed, Tally};
+use crate::tally::Tally;
 
-/// Guards of the points, above every limit, and of the directory.
-const POINT_GUARD: u16 = 0xCA5E;
-const WORD_GUARD: u32 = 0xC0DE_CA5E;
 /// So many guard bytes stand before and behind the text.
 const BYTE_GUARD: u8 = 0xC5;
 const GUARDS: usize = 64;
@@ -18,8 +15,6 @@ const GUARDS: usize = 64;
 const UNSET: u64 = 0x5A5A_5A5A_5A5A_5A5A;
 /// The most bytes that a generous room has beyond its need, and that a text without room is lent.
 const MOST_SPARE: usize = 99;
-/// How many words of a directory a description shows.
-const WORDS_SHOWN: usize = 80;
 
 /// What the entries have to answer.
 #[derive(Clone, Copy)]
@@ -70,49 +65,27 @@ impl Entry {
     }
 }
 
-/// A ring set as it is lent, with guards about what stands in memory.
-struct Lent<'a> {
-    set: &'a RingSet,
-    points: Guarded<u16>,
-    directory: Guarded<u32>,
+/// Calls an entry with a ring set and returns its number.
+#[cfg(feature = "geojson")]
+fn call(entry: Entry, lent: &LentSet, sheet: &mut Sheet) -> u32 {
+    let (points, directory) = (lent.points(), lent.directory());
+    let (text, room) = (sheet.text[GUARDS..].as_mut_ptr(), sheet.room());
+    let length = &mut sheet.length[1];
+    macro_rules! call {
+        ($function:ident $(, $rest:expr)*) => {
+            unsafe { $function(points.0, points.1, directory.0, directory.1, lent.set.rings $(, $rest)*) }
+        };
+    }
+    match entry {
+        Entry::Check => call!(contour_check),
+        Entry::Length => call!(contour_geojson_length, length),
+        Entry::Text => call!(contour_geojson, text, room, length),
+    }
 }
 
-impl<'a> Lent<'a> {
-    fn new(set: &'a RingSet) -> Self {
-        Lent {
-            set,
-            points: Guarded::new(&set.points, POINT_GUARD),
-            directory: Guarded::new(&set.directory, WORD_GUARD),
-        }
-    }
-
-    fn is_still(&self) -> bool {
-        self.points.is_still(&self.set.points) && self.directory.is_still(&self.set.directory)
-    }
-
-    /// Calls an entry and returns its number.
-    #[cfg(feature = "geojson")]
-    fn call(&self, entry: Entry, sheet: &mut Sheet) -> u32 {
-        let points = (self.points.at(), self.set.lent_points().len());
-        let directory = (self.directory.at(), self.set.lent_directory().len());
-        let (text, room) = (sheet.text[GUARDS..].as_mut_ptr(), sheet.room());
-        let length = &mut sheet.length[1];
-        macro_rules! call {
-            ($function:ident $(, $rest:expr)*) => {
-                unsafe { $function(points.0, points.1, directory.0, directory.1, self.set.rings $(, $rest)*) }
-            };
-        }
-        match entry {
-            Entry::Check => call!(contour_check),
-            Entry::Length => call!(contour_geojson_length, length),
-            Entry::Text => call!(contour_geojson, text, room, length),
-        }
-    }
-
-    #[cfg(not(feature = "geojson"))]
-    fn call(&self, _: Entry, _: &mut Sheet) -> u32 {
-        unreachable!("no writer in the library")
-    }
+#[cfg(not(feature = "geojson"))]
+fn call(_: Entry, _: &LentSet, _: &mut Sheet) -> u32 {
+    unreachable!("no writer in the library")
 }
 
 /// What a call may write: a text between guards, and the length between two numbers.
@@ -188,24 +161,21 @@ pub fn compare_set(tally: &mut Tally, random: &mut Random, set: &RingSet, expect
         Expected::Faulty => vec![0, random.between(1, 2_000)],
         Expected::Long(_) => vec![random.below(MOST_SPARE)],
     };
-    let lent = Lent::new(set);
+    let lent = LentSet::new(set);
     for entry in [Entry::Check, Entry::Length] {
         compare_call(tally, random, &lent, entry, 0, expected);
     }
     for room in rooms {
         compare_call(tally, random, &lent, Entry::Text, room, expected);
     }
-    let difference = (!lent.is_still()).then(|| "a change of the words lent".to_string());
-    tally.holds(difference, || {
-        format!("after all calls, {}", described(set))
-    });
+    lent.compare_still(tally);
 }
 
 /// One call, held to what it has to answer and to leave.
 fn compare_call(
     tally: &mut Tally,
     random: &mut Random,
-    lent: &Lent,
+    lent: &LentSet,
     entry: Entry,
     room: usize,
     expected: Expected,
@@ -216,7 +186,7 @@ fn compare_call(
     if number == 0 {
         settled.settle(entry, expected);
     }
-    let got = lent.call(entry, &mut sheet);
+    let got = call(entry, lent, &mut sheet);
     let difference = match got == number {
         true => sheet.difference(&settled),
         false => Some(format!("number returned: expected {number}, got {got}")),
@@ -228,19 +198,4 @@ fn compare_call(
         };
         format!("{}, {}{room}", entry.name(), described(lent.set))
     });
-}
-
-/// A ring set in words.
-fn described(set: &RingSet) -> String {
-    let (points, directory) = (listed(set.lent_points()), set.lent_directory());
-    let shown = &directory[..directory.len().min(WORDS_SHOWN)];
-    let more = if shown.len() < directory.len() {
-        " and so on"
-    } else {
-        ""
-    };
-    format!(
-        "{} rings, directory {shown:?}{more}, points {points}",
-        set.rings
-    )
 }

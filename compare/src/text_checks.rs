@@ -39,8 +39,13 @@ pub fn any_sets(tally: &mut Tally, random: &mut Random) {
 }
 
 fn compare_good(tally: &mut Tally, random: &mut Random, set: &RingSet) {
+    assert!(!set.is_faulty(), "a set with a fault");
+    compare_any(tally, random, set);
+}
+
+/// Any set: its text, or number 9.
+pub fn compare_any(tally: &mut Tally, random: &mut Random, set: &RingSet) {
     let text = set.text();
-    assert!(text.is_some(), "a set with a fault");
     compare_set(tally, random, set, Expected::of(&text));
 }
 
@@ -50,22 +55,10 @@ fn compare_good(tally: &mut Tally, random: &mut Random, set: &RingSet) {
 pub fn random_set(random: &mut Random) -> RingSet {
     let (rings, share) = (random.below(13), random.below(9));
     let reach = random.pick(&[3, 25, 250, usize::from(LARGEST)]);
-    let classes = (0..rings).map(|_| match random.below(8) < share {
-        true => POLYGON,
-        false => HOLE,
-    });
-    let classes: Vec<u32> = classes.collect();
-    let numbered = (0..).zip(&classes);
-    let polygons: Vec<u32> = numbered
-        .filter_map(|(number, &class)| (class == POLYGON).then(|| number))
-        .collect();
+    let classes = random_classes(random, rings, share);
     let mut set = RingSet::default();
     for (number, &class) in (0..).zip(&classes) {
-        let owner = match class {
-            POLYGON => number,
-            _ if polygons.is_empty() || random.once_in(4) => NOBODY,
-            _ => random.pick(&polygons),
-        };
+        let owner = random_owner(random, &classes, number);
         let words = 2 * random.between(3, 12);
         let mut ring: Vec<u16> = (0..words)
             .map(|_| random.between(0, reach) as u16)
@@ -87,6 +80,28 @@ pub fn random_set(random: &mut Random) -> RingSet {
         extend(random, &mut set.directory, more_words);
     }
     set
+}
+
+/// So many classes, of which this share of eight are polygons.
+pub fn random_classes(random: &mut Random, rings: usize, share: usize) -> Vec<u32> {
+    let classes = (0..rings).map(|_| match random.below(8) < share {
+        true => POLYGON,
+        false => HOLE,
+    });
+    classes.collect()
+}
+
+/// An owner for a ring among those of these classes: itself for a polygon, any polygon or nobody for a hole.
+pub fn random_owner(random: &mut Random, classes: &[u32], number: u32) -> u32 {
+    let numbered = (0..).zip(classes);
+    let polygons: Vec<u32> = numbered
+        .filter_map(|(number, &class)| (class == POLYGON).then(|| number))
+        .collect();
+    match classes[number as usize] {
+        POLYGON => number,
+        _ if polygons.is_empty() || random.once_in(4) => NOBODY,
+        _ => random.pick(&polygons),
+    }
 }
 
 /// So many words more, of 16 bits.
