@@ -2,3 +2,4 @@
 pub mod Rings
 pub mod Owners
 pub mod Drawn
+pub mod Example

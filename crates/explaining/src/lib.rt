@@ -35,6 +35,7 @@ pub enum RingFate {
 
 // What a ring answers for another.
 pub enum PolygonAnswer {
+    // what the vertices of the other ring come to
     Decided(Decision),
     // the ring set is faulty, or there is no ring of such a number
     Refused(Refusal),
@@ -42,6 +43,7 @@ pub enum PolygonAnswer {
 
 // What smoothing does to a vertex of a ring.
 pub enum VertexAnswer {
+    // what it does to each coordinate
     Moves(VertexMoves),
     // the grid does not fit, the ring set is faulty, or there is no such vertex midway between two samples
     Refused(Refusal),

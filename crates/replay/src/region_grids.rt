@@ -2,6 +2,7 @@
 // of the band, which begin with the contour's.
 use crate::calls::VALUES;
 use crate::cases::Build;
+use crate::fates::fates_hold;
 use crate::grids::PLAIN;
 use crate::grids::after_records;
 use crate::grids::case_of;
@@ -25,7 +26,7 @@ fn after_samples(line: &[u32]) -> &[u32] {
     after(line, 2 + sample_count(word(line, 0), word(line, 1)))
 }
 
-// Whether contour and band of this line are replayed without a difference.
+// Whether contour and band of this line, and the fates of the contour's rings, are replayed without a difference.
 pub fn regions_hold(line: &[u32]) -> bool {
     let pair = after_samples(line);
     let contour = after(pair, 2);
@@ -39,4 +40,10 @@ pub fn regions_hold(line: &[u32]) -> bool {
     (listed.len() == band_case.room.worded)
         & both_hold(contour_case, after(contour, 4), listed, &values)
         & both_hold(band_case, after(band, 4), listed, &values)
+        & fates_hold(
+            listed,
+            contour_case.room.worded,
+            after(contour, 4),
+            contour_case.counts.rings,
+        )
 }

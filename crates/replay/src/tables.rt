@@ -55,6 +55,13 @@ pub fn put(table: &mut [u32], i: usize, value: u32) {
     }
 }
 
+// Stores the low half of a word as a coordinate. Past the end nothing is stored.
+pub fn put_point(points: &mut [u16], i: usize, value: u32) {
+    if i < points.len() {
+        points[i] = (value % 65536) as u16;
+    }
+}
+
 // Stores a float. Past the end nothing is stored.
 pub fn put_float(values: &mut [f64], i: usize, value: f64) {
     if i < values.len() {

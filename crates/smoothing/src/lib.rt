@@ -3,7 +3,7 @@ use cells::Level;
 use cells::Point;
 ghost use mathlib.Core.Path.{_≡_};
 ghost use mathlib.Core.Bool.{cond};
-ghost use Prim.Native.Nat.{_-_};
+ghost use Prim.Native.Nat.{_-_, _/_};
 ghost use Rattle.scope.specs.Smoothing.{moved, sampleAt, moves, realOf, placing, placedAt, lineVertex};
 ghost use Rattle.smoothing.specs.Coordinates.{fraction, movedBy, coordinateMoves, vertexMoves};
 ghost use Rattle.smoothing.specs.Values.{placingOf, vertexOf};
@@ -78,6 +78,36 @@ fn previous(n: u32) -> u32
     if 0 < n { n - 1 } else { 0 }
 }
 
+// The column and the row that a point of doubled coordinates lies in.
+fn place_of(point: Point) -> Point
+    ensures { λ r. ⌜ (r .x ≡ point .x / 2) × (r .y ≡ point .y / 2) ⌝ }
+{
+    Point {
+        x: point.x / 2,
+        y: point.y / 2,
+    }
+}
+
+// The place before one in its row, or the first.
+fn before_in_row(place: Point) -> Point
+    ensures { λ r. ⌜ (r .x ≡ place .x - 1) × (r .y ≡ place .y) ⌝ }
+{
+    Point {
+        x: previous(place.x),
+        y: place.y,
+    }
+}
+
+// The place before one in its column, or the first.
+fn before_in_column(place: Point) -> Point
+    ensures { λ r. ⌜ (r .x ≡ place .x) × (r .y ≡ place .y - 1) ⌝ }
+{
+    Point {
+        x: place.x,
+        y: previous(place.y),
+    }
+}
+
 // A coordinate of a smoothed vertex: where it moves it lies between the sample at `from` and the one at `to`.
 fn smoothed(
     values: &[f64],
@@ -136,18 +166,9 @@ pub fn line_vertex(
     ensures { λ r. ⌜ vertexOf r ≡ lineVertex smooth (now (values .entry)) (level .threshold) dx dy (placingOf placement) (record { x = point .x; y = point .y }) ⌝ }
 {
     if smooth {
-        let at = Point {
-            x: point.x / 2,
-            y: point.y / 2,
-        };
-        let in_row = Point {
-            x: previous(at.x),
-            y: at.y,
-        };
-        let in_column = Point {
-            x: at.x,
-            y: previous(at.y),
-        };
+        let at = place_of(point);
+        let in_row = before_in_row(at);
+        let in_column = before_in_column(at);
         placed_at(
             placement,
             Vertex {
@@ -207,18 +228,9 @@ fn coordinate_moves(
 pub fn vertex_moves(values: &[f64], level: Level, dx: u32, dy: u32, point: Point) -> VertexMoves
     ensures { λ r. ⌜ r ≡ vertexMoves (now (values .entry)) (level .threshold) dx dy (record { x = point .x; y = point .y }) ⌝ }
 {
-    let at = Point {
-        x: point.x / 2,
-        y: point.y / 2,
-    };
-    let in_row = Point {
-        x: previous(at.x),
-        y: at.y,
-    };
-    let in_column = Point {
-        x: at.x,
-        y: previous(at.y),
-    };
+    let at = place_of(point);
+    let in_row = before_in_row(at);
+    let in_column = before_in_column(at);
     VertexMoves {
         x: coordinate_moves(values, level, dx, dx, point.x, in_row, at),
         y: coordinate_moves(values, level, dx, dy, point.y, in_column, at),

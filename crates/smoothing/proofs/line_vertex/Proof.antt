@@ -11,13 +11,18 @@ returns c =
     let both = c .before in
     let column = both .before .before in
     let row = column .before in
+    let place = row .before in
     rw (
       c .placed-at .ensures,
       both .smoothed2 .ensures,
       both .before .smoothed .ensures,
-      column .previous2 .ensures,
-      row .previous .ensures,
-      row .before .before .before .if1 .taken,
+      column .before-in-column .ensures .0,
+      column .before-in-column .ensures .1,
+      row .before-in-row .ensures .0,
+      row .before-in-row .ensures .1,
+      place .place-of .ensures .0,
+      place .place-of .ensures .1,
+      place .before .if1 .taken,
     )
 
 returns-2 : tie.Need-returns-2
@@ -35,6 +40,7 @@ pub line-vertex-spec : {M : Type 1} → statement M
 line-vertex-spec =
     tie.close
     (tie.spec
+    (λ c κs. search needs)
     (λ c κs. search needs)
     (λ c κs. search needs)
     (λ c κs. search needs)

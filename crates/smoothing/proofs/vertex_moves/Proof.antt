@@ -8,12 +8,20 @@ returns : tie.Need-returns
 unfolding vertexMoves
 returns c =
     let column = c .before .before in
+    let row = column .before in
+    let place = row .before in
     rw (
       c .coordinate-moves2 .ensures,
       c .before .coordinate-moves .ensures,
-      column .previous2 .ensures,
-      column .before .previous .ensures,
+      column .before-in-column .ensures .0,
+      column .before-in-column .ensures .1,
+      row .before-in-row .ensures .0,
+      row .before-in-row .ensures .1,
+      place .place-of .ensures .0,
+      place .place-of .ensures .1,
     )
 
 pub vertex-moves-spec : {M : Type 1} → statement M
-vertex-moves-spec = tie.close (tie.spec (λ c κs. search needs) (λ c κs. search needs) (λ c κs. search needs) (λ c κs. search needs) returns)
+vertex-moves-spec =
+    tie.close
+    (tie.spec (λ c κs. search needs) (λ c κs. search needs) (λ c κs. search needs) (λ c κs. search needs) (λ c κs. search needs) returns)
