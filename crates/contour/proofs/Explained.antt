@@ -1,7 +1,7 @@
 -- What the calls that explain say of a build's own tables: a ring's fate is the one by which contours acted, so the record has its class and its owner, and no call
 -- is refused; and what is said of a vertex's coordinates is what contour_lines wrote for it. Assumes nothing.
 use mathlib.Core.Path.{_≡_, refl, sym, ap, subst, _∙_}
-use mathlib.Core.Bool.{true, false}
+use mathlib.Core.Bool.{true}
 use mathlib.Core.List.{List, [], _∷_}
 use Prim.Native.Nat.{ℕ, zero, suc, _+_, _*_, _<_, _≤_}
 use native.Mathlib.Decide.{decLt}
@@ -18,7 +18,7 @@ use Rattle.scope.specs.Area.{area, positive}
 use Rattle.scope.specs.Contour.{Fate, polygon, hole, dropped, line, classWord, ownerWord, contourClasses, contourFates}
 use Rattle.scope.specs.Smoothing.{Placing, placedAt, lineVertex, lineVertices}
 use Rattle.scope.specs.Tables.{written, linePoints}
-use Rattle.scope.specs.GeoJson.{firstAt, countAt, classAt, ownerAt, ringAt}
+use Rattle.scope.specs.GeoJson.{firstAt, countAt, classAt, ownerAt}
 use Rattle.laws.proofs.Rings.{RingLaw, OddSum, Within}
 use Rattle.grid.specs.Grid.{gridFit}
 use Rattle.grid.specs.declared.GridFit.the-variants as fit-is
@@ -33,17 +33,15 @@ use Rattle.readable.proofs.Fates.{OwnedBy, fates-length, fates-owned}
 use Rattle.readable.proofs.Orders.{each-at}
 use Rattle.readable.proofs.Standing.{ContourRecord, contour-record, VertexAt, vertex-stands}
 use Rattle.smoothing.specs.Coordinates.{vertexMoves, vertexBy}
-use Rattle.smoothing.specs.declared.VertexMoves.{VertexMoves}
 use Rattle.smoothing.proofs.Explained.{vertex-explained}
 use Rattle.explaining.specs.Fates.{told, fateTold, fateAnswer, FateFound}
 use Rattle.explaining.specs.Vertices.{midway, vertexOfRing, vertexThere, vertexTold, onGrid, vertexAnswer}
 use Rattle.explaining.specs.declared.RingFate.{RingFate}
 use Rattle.explaining.specs.declared.RingFate.the-variants as fate-is
-use Rattle.explaining.specs.declared.VertexAnswer.{VertexAnswer}
 use Rattle.explaining.specs.declared.VertexAnswer.the-variants as vertex-is
 use Rattle.explaining.proofs.Drawn.{fate-by-rings, drawn-is-midway}
 use Rattle.contour.proofs.Results.{Given, given}
-use Rattle.contour.proofs.Theorems.{contoursPlan, linesPlan, contours-constructed, lines-constructed}
+use Rattle.contour.proofs.Theorems.{contoursPlan, contours-constructed, lines-constructed}
 use Rattle.contour.proofs.Checked.{contours-checked}
 
 -- ---- 1. fates

@@ -1,9 +1,9 @@
 -- Tables whose records hold the rings of a list, one by one: the rings of the set are that list, so a ring's fate is the list's. And a vertex that is drawn stands
 -- midway between two neighbouring samples of which at least one is in the grid. Assumes nothing.
 use mathlib.Core.Path.{_≡_, refl, sym, ap, ap₂, _∙_}
-use mathlib.Core.Bool.{Bool, true, false, or-true, _||_}
+use mathlib.Core.Bool.{true, false, or-true, _||_}
 use mathlib.Core.List.{List, [], _∷_}
-use Prim.Native.Nat.{ℕ, zero, suc, _+_, _*_, _/_, _%_, _<_, _≤_, suc-le-suc}
+use Prim.Native.Nat.{ℕ, suc, _+_, _*_, _/_, _%_, _<_, _≤_, suc-le-suc}
 use native.Mathlib.Decide.{decLt, ℕ-discrete}
 use native.Mathlib.Nat.{add-zero, zero-add}
 use native.Mathlib.Omega.{arith}

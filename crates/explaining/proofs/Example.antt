@@ -21,11 +21,8 @@ use Rattle.smoothing.specs.Coordinates.{fraction, movedBy, coordinateMoves, ver
 use Rattle.smoothing.specs.declared.Coordinate.the-variants as coordinate-is
 use Rattle.deciding.specs.Decisions.{decidedBy, decisionFrom, decisionOf}
 use Rattle.deciding.specs.declared.Decision.the-variants as decision-is
-use Rattle.explaining.specs.declared.RingFate.{RingFate}
 use Rattle.explaining.specs.declared.RingFate.the-variants as fate-is
-use Rattle.explaining.specs.declared.PolygonAnswer.{PolygonAnswer}
 use Rattle.explaining.specs.declared.PolygonAnswer.the-variants as answer-is
-use Rattle.explaining.specs.declared.VertexAnswer.{VertexAnswer}
 use Rattle.explaining.specs.declared.VertexAnswer.the-variants as vertex-is
 use Rattle.explaining.specs.Fates.{ringsFrom, ringsIn, told, fateTold, fateAnswer, polygonAnswer}
 use Rattle.explaining.specs.Vertices.{inGrid, midwayInRow, midwayInColumn, midway, vertexOfRing, vertexThere, vertexTold, onGrid, vertexAnswer}

@@ -2,7 +2,7 @@
 -- shows of the polygons before it. Each law goes by how many rings are left. Assumes nothing.
 use mathlib.Core.Path.{_≡_, refl, sym, ap, subst, _∙_}
 use mathlib.Core.Bool.{Bool, true, false, cond, true≢false, _&&_}
-use mathlib.Core.List.{List, [], _∷_, map}
+use mathlib.Core.List.{List, [], _∷_}
 use Prim.Native.Nat.{ℕ, zero, suc, _+_, _-_, _<_, _≤_}
 use native.Mathlib.Decide.{ℕ-discrete}
 use native.Mathlib.Nat.{add-zero, zero-add, le-of-suc-le-suc, not-suc-le-zero}
@@ -18,7 +18,6 @@ use Rattle.scope.specs.Containment.{Answer, outside, boundary, inside, ringAgai
 use Rattle.scope.specs.Contour.{Fate, polygon, hole, dropped, line, takes, ownerFrom, fatesBy, contourClasses, contourFates}
 use Rattle.scope.specs.GeoJson.{ringAt, ringSetRefused}
 use Rattle.deciding.specs.Decisions.{decisionOf, answerIn}
-use Rattle.deciding.specs.declared.Decision.{Decision}
 use Rattle.deciding.proofs.Laws.{decision-answers}
 use Rattle.explaining.specs.declared.RingFate.{RingFate}
 use Rattle.explaining.specs.declared.RingFate.the-variants as fate-is

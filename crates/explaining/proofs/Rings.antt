@@ -2,14 +2,13 @@
 -- these points. Assumes nothing.
 use mathlib.Core.Path.{_≡_, sym, ap, _∙_}
 use mathlib.Core.Bool.{false}
-use mathlib.Core.List.{List, [], _∷_}
-use Prim.Native.Nat.{ℕ, zero, suc, _+_, _*_, _-_, _<_, _≤_}
+use mathlib.Core.List.{List}
+use Prim.Native.Nat.{ℕ, zero, suc, _+_, _-_, _<_, _≤_}
 use native.Mathlib.Nat.{add-zero}
 use native.Mathlib.Omega.{arith}
-use lib.ListN.{length, getD}
+use lib.ListN.{getD}
 use borrow.Author.Tests.{not-false}
 use Rattle.scope.specs.Cells.{Point}
-use Rattle.scope.specs.Stitching.{Line}
 use Rattle.scope.specs.Area.{points}
 use Rattle.scope.specs.GeoJson.{firstAt, countAt, wordsIn, ringWordsAt, ringAt, unclosed}
 use Rattle.laws.proofs.Ends.{same-eq}

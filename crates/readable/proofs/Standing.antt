@@ -18,7 +18,7 @@ use Rattle.scope.specs.Tables.{firstPoint, packedPoints, contourRecords, vertex
 use Rattle.scope.specs.GeoJson.{firstAt, countAt, classAt, ownerAt, ringAt}
 use Rattle.readable.proofs.Orders.{nobody, Among, each-at, by-number}
 use Rattle.readable.proofs.Fates.{fates-length}
-use Rattle.readable.proofs.Records.{Recorded, recorded, ring-found}
+use Rattle.readable.proofs.Records.{recorded, ring-found}
 
 -- ---- a contour's record
 

@@ -1,5 +1,4 @@
 -- `explaining::holds` meets its contract: each arm is the definition's. Assumes nothing.
-use mathlib.Core.Path.{sym, ap}
 use borrow.Author.Needs.{needs}
 use Rattle.scope.specs.Containment.{notOutside}
 use Rattle.deciding.specs.Decisions.{answerIn}

@@ -4,7 +4,7 @@ use mathlib.Core.Bool.{false}
 use borrow.Author.Needs.{needs}
 use borrow.Author.Tests.{lt-ltb, le-ltb}
 use Rattle.scope.specs.GeoJson.{ringSetRefused}
-use Rattle.explaining.specs.Fates.{RingOf, polygonAnswer}
+use Rattle.explaining.specs.Fates.{polygonAnswer}
 use Rattle.explaining.proofs.polygon_answer.Statement.{statement}
 use Rattle.explaining.proofs.polygon_answer.Tie as tie
 

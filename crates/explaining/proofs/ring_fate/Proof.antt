@@ -4,7 +4,7 @@ use mathlib.Core.Bool.{false}
 use borrow.Author.Needs.{needs}
 use borrow.Author.Tests.{lt-ltb, le-ltb}
 use Rattle.scope.specs.GeoJson.{ringSetRefused}
-use Rattle.explaining.specs.Fates.{RingOf, fateAnswer}
+use Rattle.explaining.specs.Fates.{fateAnswer}
 use Rattle.explaining.proofs.Owners.{fate-of, fate-found}
 use Rattle.explaining.proofs.ring_fate.Statement.{statement}
 use Rattle.explaining.proofs.ring_fate.Tie as tie
