@@ -10,6 +10,7 @@ use native.Mathlib.Omega.{arith}
 use lib.Ieee.{Float, nan}
 use lib.ListN.{length, getD, length-map}
 use borrow.Author.Tests.{lt-ltb}
+use Rattle.error.specs.declared.Refusal.the-variants.{BadSide}
 use Rattle.scope.specs.Limits.{noOwner}
 use Rattle.scope.specs.Cells.{Point}
 use Rattle.scope.specs.Stitching.{Line}
@@ -67,20 +68,13 @@ within [] i d e h = absurd (not-suc-le-zero h)
 within (x ∷ xs) zero d e h = refl
 within (x ∷ xs) (suc i) d e h = within xs i d e (le-of-suc-le-suc h)
 
--- a grid that fits has a column and a row
-some-column : (count dx dy : ℕ) → gridFit count dx dy ≡ fit-is.Fits → 1 ≤ dx
-some-column count dx dy fits = by (decLt 0 dx)
+-- a side of a grid that fits is not 0, where one of 0 is refused
+some-of : (count dx dy side : ℕ) → (side ≡ 0 → fit-is.Refused BadSide ≡ gridFit count dx dy) → gridFit count dx dy ≡ fit-is.Fits → 1 ≤ side
+some-of count dx dy side refused fits = by (decLt 0 side)
   where
-    by : Dec (0 < dx) → 1 ≤ dx
+    by : Dec (0 < side) → 1 ≤ side
     by (yes h) = h
-    by (no h) = absurd (let r = no-columns-are-refused count dx dy (omega arith) in let z : _≡_ {A = ℕ} 0 1 = cc in omega arith)
-
-some-row : (count dx dy : ℕ) → gridFit count dx dy ≡ fit-is.Fits → 1 ≤ dy
-some-row count dx dy fits = by (decLt 0 dy)
-  where
-    by : Dec (0 < dy) → 1 ≤ dy
-    by (yes h) = h
-    by (no h) = absurd (let r = no-rows-are-refused count dx dy (omega arith) in let z : _≡_ {A = ℕ} 0 1 = cc in omega arith)
+    by (no h) = absurd (let r = refused (omega arith) in let z : _≡_ {A = ℕ} 0 1 = cc in omega arith)
 
 -- a contour that was built
 module _ {values : List Float} {threshold : Float} {dx dy : ℕ} {lines links points directory : List ℕ} {answer : Built} {lines′ links′ points′ directory′ : List ℕ}
@@ -140,7 +134,7 @@ module _ {values : List Float} {threshold : Float} {dx dy : ℕ} {lines links po
         let odd : OddSum (getD (getD rings i []) v nowhere) = each-at OddSum (getD rings i []) nowhere (its-law .odd-sums) v in-ring in
         let inside : Within dx dy (getD (getD rings i []) v nowhere) = each-at (Within dx dy) (getD rings i []) nowhere (its-law .inside) v in-ring in
         rw its-vertex
-        (drawn-is-midway dx dy (some-column (length values) dx dy (stands .fits)) (some-row (length values) dx dy (stands .fits)) (getD (getD rings i []) v nowhere) odd (inside .0) (inside .1))
+        (drawn-is-midway dx dy (some-of (length values) dx dy dx (no-columns-are-refused (length values) dx dy) (stands .fits)) (some-of (length values) dx dy dy (no-rows-are-refused (length values) dx dy) (stands .fits)) (getD (getD rings i []) v nowhere) odd (inside .0) (inside .1))
 
     -- no vertex of the build is refused
     pub vertex-explained-always : vertexAnswer values threshold dx dy points′ directory′ n i v ≡ vertex-is.Moves (vertexMoves values threshold dx dy (vertexOfRing points′ directory′ i v))

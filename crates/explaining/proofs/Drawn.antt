@@ -1,7 +1,7 @@
 -- Tables whose records hold the rings of a list, one by one: the rings of the set are that list, so a ring's fate is the list's. And a vertex that is drawn stands
 -- midway between two neighbouring samples of which at least one is in the grid. Assumes nothing.
 use mathlib.Core.Path.{_≡_, refl, sym, ap, ap₂, _∙_}
-use mathlib.Core.Bool.{true, false, or-true, _||_}
+use mathlib.Core.Bool.{Bool, true, false, or-true, _||_}
 use mathlib.Core.List.{List, [], _∷_}
 use Prim.Native.Nat.{ℕ, suc, _+_, _*_, _/_, _%_, _<_, _≤_, suc-le-suc}
 use native.Mathlib.Decide.{decLt, ℕ-discrete}
@@ -38,31 +38,29 @@ module _ (ps directory : List ℕ) where
 
 -- ---- vertices
 
+-- of a number up to a side and the one behind it, one is from 1 to the side, and passes a test that all these pass
+one-of-two : (test : ℕ → Bool) (side : ℕ) → ((k : ℕ) → 1 ≤ k → k ≤ side → test k ≡ true) → 1 ≤ side → (k : ℕ) → k ≤ side → test k || test (k + 1) ≡ true
+one-of-two test side passes some k h = by (decLt 0 k)
+  where
+    by : Dec (0 < k) → test k || test (k + 1) ≡ true
+    by (yes g) = rw (passes k g h)
+    by (no g) = rw (passes (k + 1) (omega arith) (omega arith), or-true)
+
 module _ (dx dy : ℕ) where
   in-grid : (c r : ℕ) → 1 ≤ c → c ≤ dx → 1 ≤ r → r ≤ dy → inGrid dx dy c r ≡ true
   unfolding inGrid
   in-grid c r a b d e = rw (le-leb 1 c a, le-leb c dx b, le-leb 1 r d, le-leb r dy e)
-
-  -- the sample before or the one behind is in the grid
-  one-of-two : (c : ℕ) → c ≤ dx → 1 ≤ dx → (r : ℕ) → 1 ≤ r → r ≤ dy → inGrid dx dy c r || inGrid dx dy (c + 1) r ≡ true
-  one-of-two c h some r a b = by (decLt 0 c)
-    where
-      by : Dec (0 < c) → inGrid dx dy c r || inGrid dx dy (c + 1) r ≡ true
-      by (yes g) = rw (in-grid c r g h a b)
-      by (no g) = rw (in-grid (c + 1) r (omega arith) (omega arith) a b, or-true)
-
-  two-of-a-column : (r : ℕ) → r ≤ dy → 1 ≤ dy → (c : ℕ) → 1 ≤ c → c ≤ dx → inGrid dx dy c r || inGrid dx dy c (r + 1) ≡ true
-  two-of-a-column r h some c a b = by (decLt 0 r)
-    where
-      by : Dec (0 < r) → inGrid dx dy c r || inGrid dx dy c (r + 1) ≡ true
-      by (yes g) = rw (in-grid c r a b g h)
-      by (no g) = rw (in-grid c (r + 1) a b (omega arith) (omega arith), or-true)
 
   pub drawn-is-midway : 1 ≤ dx → 1 ≤ dy → (p : Point) → OddSum p → p .x ≤ 2 * dx → p .y ≤ 2 * dy → midway dx dy p ≡ true
   unfolding midway midwayInRow midwayInColumn
   drawn-is-midway some some′ p odd h k = by (ℕ-discrete (p .x % 2) 0)
     where
       by : Dec (p .x % 2 ≡ 0) → midway dx dy p ≡ true
-      by (yes e) = rw (eq-eqb (p .x % 2) 0 e, eq-eqb (p .y % 2) 1 (omega arith), one-of-two (p .x / 2) (omega arith) some (p .y / 2 + 1) (omega arith) (omega arith))
+      by (yes e) =
+          let row = p .y / 2 + 1 in
+          let beside = one-of-two (λ c. inGrid dx dy c row) dx (λ c a b. in-grid c row a b (omega arith) (omega arith)) some (p .x / 2) (omega arith) in
+          rw (eq-eqb (p .x % 2) 0 e, eq-eqb (p .y % 2) 1 (omega arith), beside)
       by (no e) =
-          rw (eq-eqb (p .x % 2) 1 (omega arith), eq-eqb (p .y % 2) 0 (omega arith), two-of-a-column (p .y / 2) (omega arith) some′ (p .x / 2 + 1) (omega arith) (omega arith), or-true)
+          let column = p .x / 2 + 1 in
+          let beside = one-of-two (λ r. inGrid dx dy column r) dy (λ r a b. in-grid column r (omega arith) (omega arith) a b) some′ (p .y / 2) (omega arith) in
+          rw (eq-eqb (p .x % 2) 1 (omega arith), eq-eqb (p .y % 2) 0 (omega arith), beside, or-true)
