@@ -9,17 +9,18 @@
  * may not.
  *
  * The order of calls. A first report sizes the work tables, a second report the outputs, and then a figure is
- * drawn; here the contour at a threshold t:
+ * drawn; here the contour at a threshold t, of the samples that are at least t:
  *
  *     uint32_t s, h, r, p;
- *     contour_first_report(values, dx * dy, t, dx, dy, &s, &h);
+ *     contour_first_report(values, dx * dy, t, CONTOUR_AT_LEAST, dx, dy, &s, &h);
  *     size_t lines_words = CONTOUR_OPEN_WORDS(h, dx), links_words = CONTOUR_LINK_WORDS(s);
  *     uint32_t *lines = malloc(4 * lines_words), *links = malloc(4 * links_words);
- *     contour_second_report(values, dx * dy, t, dx, dy, lines, lines_words, links, links_words, &s, &r, &h, &p);
+ *     contour_second_report(values, dx * dy, t, CONTOUR_AT_LEAST, dx, dy, lines, lines_words, links, links_words,
+ *                           &s, &r, &h, &p);
  *     size_t points_words = CONTOUR_POINT_WORDS(p), directory_words = CONTOUR_DIRECTORY_WORDS(r);
  *     uint16_t *points = malloc(2 * points_words);
  *     uint32_t *directory = malloc(4 * directory_words);
- *     contour_contours(values, dx * dy, t, dx, dy, lines, lines_words, links, links_words,
+ *     contour_contours(values, dx * dy, t, CONTOUR_AT_LEAST, dx, dy, lines, lines_words, links, links_words,
  *                      points, points_words, directory, directory_words, &r);
  *     for (uint32_t k = 0; k < r; k++) {
  *         const uint32_t *record = directory + CONTOUR_RECORD_WORDS * (size_t)k;
@@ -36,7 +37,7 @@
  *
  *     uint32_t state[CONTOUR_ROWS_WORDS], rings;
  *     size_t lines_words = CONTOUR_ROWS_OPEN_WORDS(dx);
- *     contour_rows_begin(t, dx, dy, state);
+ *     contour_rows_begin(t, CONTOUR_AT_LEAST, dx, dy, state);
  *     for (size_t y = 0; y < dy; y++) {
  *         ... the next row's dx values ...
  *         contour_rows_row(state, values, dx, lines, lines_words, links, links_words,
@@ -48,8 +49,10 @@
  *     ... the rings that close at the lower edge ...
  *
  * The terrain: dx columns and dy rows, each from 1 to CONTOUR_SIDE_LIMIT, 4,096, and dx * dy values, row after
- * row. A sample is above when its value >= threshold; a NaN on either side is not above. Outside the grid
- * nothing is above.
+ * row. The rule says how a sample is held to the threshold. Under CONTOUR_AT_LEAST, which is 0, it is above when its
+ * value >= threshold; under CONTOUR_MORE_THAN, and any other number that is not 0, when its value > threshold. A NaN
+ * on either side is not above under either rule. Outside the grid nothing is above. The calls that draw one figure
+ * are to have the same rule, as they have the same threshold; the rule of a band holds for both its thresholds.
  *
  * Coordinates are doubled whole numbers: sample (column, row) stands at (2 * column + 1, 2 * row + 1), and
  * every coordinate is at most CONTOUR_COORDINATE_LIMIT, 8,192. A ring is a closed list of points, its first
@@ -131,9 +134,9 @@
 
 /* The version of this header and of the library that was installed with it. */
 #define CONTOUR_VERSION_MAJOR 0
-#define CONTOUR_VERSION_MINOR 2
+#define CONTOUR_VERSION_MINOR 3
 #define CONTOUR_VERSION_PATCH 0
-#define CONTOUR_VERSION "0.2.0"
+#define CONTOUR_VERSION "0.3.0"
 
 /* What a call returns. */
 #define CONTOUR_OK 0u
@@ -153,6 +156,10 @@
 #define CONTOUR_NOT_THERE 15u
 /* No call here returns this: those of contour_easy.h do where malloc has nothing left. */
 #define CONTOUR_NO_MEMORY 255u
+
+/* The rules: a sample is above when its value is at least the threshold, or when it is more. */
+#define CONTOUR_AT_LEAST 0u
+#define CONTOUR_MORE_THAN 1u
 
 /* The classes of a ring, and the owner of one that has none. */
 #define CONTOUR_POLYGON 0u
@@ -187,7 +194,7 @@
 #define CONTOUR_RECORD_OWNER 3u
 
 /* The words of the state of a terrain that comes row by row. */
-#define CONTOUR_ROWS_WORDS 140u
+#define CONTOUR_ROWS_WORDS 141u
 
 /* The words of each table, by what the reports give. */
 #define CONTOUR_OPEN_WORDS(peak, dx) (4 * (size_t)(peak) + (size_t)(dx) + 2)
@@ -246,8 +253,8 @@ static inline const char *contour_strerror(uint32_t number) {
  *
  * Returns 0 and sets *segments to S and *peak to H; or returns 1 or 2.
  */
-uint32_t contour_first_report(const double *values, size_t count, double threshold, size_t dx, size_t dy,
-                              uint32_t *segments, uint32_t *peak);
+uint32_t contour_first_report(const double *values, size_t count, double threshold, uint32_t rule, size_t dx,
+                              size_t dy, uint32_t *segments, uint32_t *peak);
 
 /*
  * Counts S, R, H and the points of all rings with both work tables: lines is the open table, links the link
@@ -256,8 +263,8 @@ uint32_t contour_first_report(const double *values, size_t count, double thresho
  * Returns 0, sets *segments to S, *rings to R, *peak to H and *points to S + R, and leaves zeros in the
  * needed words of both work tables; or returns 1, 2, 5 or 6.
  */
-uint32_t contour_second_report(const double *values, size_t count, double threshold, size_t dx, size_t dy,
-                               uint32_t *lines, size_t lines_words, uint32_t *links, size_t links_words,
+uint32_t contour_second_report(const double *values, size_t count, double threshold, uint32_t rule, size_t dx,
+                               size_t dy, uint32_t *lines, size_t lines_words, uint32_t *links, size_t links_words,
                                uint32_t *segments, uint32_t *rings, uint32_t *peak, uint32_t *points);
 
 /*
@@ -269,10 +276,9 @@ uint32_t contour_second_report(const double *values, size_t count, double thresh
  *
  * Or returns 1, 2, 5, 6, 7 or 8; points, directory and *rings then stay as they were.
  */
-uint32_t contour_rings(const double *values, size_t count, double threshold, size_t dx, size_t dy,
-                       uint32_t *lines, size_t lines_words, uint32_t *links, size_t links_words,
-                       uint16_t *points, size_t points_words, uint32_t *directory, size_t directory_words,
-                       uint32_t *rings);
+uint32_t contour_rings(const double *values, size_t count, double threshold, uint32_t rule, size_t dx, size_t dy,
+                       uint32_t *lines, size_t lines_words, uint32_t *links, size_t links_words, uint16_t *points,
+                       size_t points_words, uint32_t *directory, size_t directory_words, uint32_t *rings);
 
 /*
  * Draws the contour of the terrain: the rings of contour_rings, in the same order, as polygons and holes. A
@@ -281,7 +287,7 @@ uint32_t contour_rings(const double *values, size_t count, double threshold, siz
  *
  * Returns and leaves what contour_rings does, but for class and owner in the directory.
  */
-uint32_t contour_contours(const double *values, size_t count, double threshold, size_t dx, size_t dy,
+uint32_t contour_contours(const double *values, size_t count, double threshold, uint32_t rule, size_t dx, size_t dy,
                           uint32_t *lines, size_t lines_words, uint32_t *links, size_t links_words,
                           uint16_t *points, size_t points_words, uint32_t *directory, size_t directory_words,
                           uint32_t *rings);
@@ -294,8 +300,8 @@ uint32_t contour_contours(const double *values, size_t count, double threshold, 
  * returns 1, 2, 3 or 4.
  */
 uint32_t contour_band_first_report(const double *values, size_t count, const double *thresholds,
-                                   size_t thresholds_count, size_t k, size_t dx, size_t dy, uint32_t *segments,
-                                   uint32_t *peak);
+                                   size_t thresholds_count, uint32_t rule, size_t k, size_t dx, size_t dy,
+                                   uint32_t *segments, uint32_t *peak);
 
 /*
  * Counts for a band with both work tables.
@@ -305,9 +311,9 @@ uint32_t contour_band_first_report(const double *values, size_t count, const dou
  * 2, 3, 4, 5 or 6.
  */
 uint32_t contour_band_second_report(const double *values, size_t count, const double *thresholds,
-                                    size_t thresholds_count, size_t k, size_t dx, size_t dy, uint32_t *lines,
-                                    size_t lines_words, uint32_t *links, size_t links_words, uint32_t *segments,
-                                    uint32_t *rings, uint32_t *peak, uint32_t *points);
+                                    size_t thresholds_count, uint32_t rule, size_t k, size_t dx, size_t dy,
+                                    uint32_t *lines, size_t lines_words, uint32_t *links, size_t links_words,
+                                    uint32_t *segments, uint32_t *rings, uint32_t *peak, uint32_t *points);
 
 /*
  * Draws the band of thresholds k and k + 1, counted from 0 in the list: the rings of both, as polygons and
@@ -325,15 +331,16 @@ uint32_t contour_band_second_report(const double *values, size_t count, const do
  * along edges, which readers of maps such as GEOS, shapely and PostGIS call invalid; an interior may belong to a
  * polygon that it is not in; and rings may be dropped, so that a sample between the thresholds is in no polygon:
  * of the rows 2 2 2, 2 1 2 and 2 2 0 the band from 1 to 2 has no polygon at all. For a map, draw
- * contour_contours at 1 of a terrain that is 1 where low <= value < high and 0 elsewhere: its polygons have the
- * same edges midway between samples, hold every sample of the band and no other, and are valid.
+ * contour_contours at 1 of a terrain that is 1 where low <= value < high, or under CONTOUR_MORE_THAN where
+ * low < value <= high, and 0 elsewhere: its polygons have the same edges midway between samples, hold every sample
+ * of the band and no other, and are valid.
  *
  * Or returns 1, 2, 3, 4, 5, 6, 7 or 8; points, directory and *rings then stay as they were.
  */
 uint32_t contour_isobands(const double *values, size_t count, const double *thresholds, size_t thresholds_count,
-                          size_t k, size_t dx, size_t dy, uint32_t *lines, size_t lines_words, uint32_t *links,
-                          size_t links_words, uint16_t *points, size_t points_words, uint32_t *directory,
-                          size_t directory_words, uint32_t *rings);
+                          uint32_t rule, size_t k, size_t dx, size_t dy, uint32_t *lines, size_t lines_words,
+                          uint32_t *links, size_t links_words, uint16_t *points, size_t points_words,
+                          uint32_t *directory, size_t directory_words, uint32_t *rings);
 
 /*
  * Draws the lines of the terrain: the rings of contour_rings, in the same order, with half their coordinates,
@@ -348,19 +355,20 @@ uint32_t contour_isobands(const double *values, size_t count, const double *thre
  *
  * Returns and leaves what contour_rings does, but for the points, which are doubles.
  */
-uint32_t contour_lines(const double *values, size_t count, double threshold, size_t dx, size_t dy,
+uint32_t contour_lines(const double *values, size_t count, double threshold, uint32_t rule, size_t dx, size_t dy,
                        uint32_t smooth, double x_origin, double y_origin, double x_step, double y_step,
-                       uint32_t *lines, size_t lines_words, uint32_t *links, size_t links_words,
-                       double *points, size_t points_words, uint32_t *directory, size_t directory_words,
-                       uint32_t *rings);
+                       uint32_t *lines, size_t lines_words, uint32_t *links, size_t links_words, double *points,
+                       size_t points_words, uint32_t *directory, size_t directory_words, uint32_t *rings);
 
 /*
- * Begins a terrain that comes row by row, at one threshold. The state is the caller's, CONTOUR_ROWS_WORDS words that
- * only these three calls read and write; it may be copied, with its work tables, and both copies gone on with.
+ * Begins a terrain that comes row by row, at one threshold and by one rule. The state is the caller's,
+ * CONTOUR_ROWS_WORDS words that only these three calls read and write; it may be copied, with its work tables, and
+ * both copies gone on with.
  *
  * Returns 0 and sets the state; or returns 1, and the state stays as it was.
  */
-uint32_t contour_rows_begin(double threshold, size_t dx, size_t dy, uint32_t state[CONTOUR_ROWS_WORDS]);
+uint32_t contour_rows_begin(double threshold, uint32_t rule, size_t dx, size_t dy,
+                            uint32_t state[CONTOUR_ROWS_WORDS]);
 
 /*
  * Takes the next row of the terrain, draws what it shows of it, and hands out the rings that close. The rings of all
@@ -491,15 +499,15 @@ uint32_t contour_polygon_answer(const uint16_t *points, size_t points_words, con
 /*
  * What smoothing does to a vertex of a ring, as contour_lines does it to the terrain's lines: a coordinate stays, or
  * x becomes x + fraction - 0.5, where fraction is (threshold - v0) / (v1 - v0); or that fraction is not a number,
- * and then the coordinate of the line is none either.
+ * and then the coordinate of the line is none either. The rule is the ring's; no fraction depends on it.
  *
  * Returns 0 and sets *x_kind and *y_kind to CONTOUR_STAYED, CONTOUR_MOVED or CONTOUR_NOT_A_NUMBER, and *x_fraction
  * and *y_fraction where the coordinate moved; otherwise the fraction stays as it was. Or returns 1, 2, 9, or 15
  * where ring is not below rings, vertex not below the ring's number of points, or the vertex does not stand midway
  * between two neighbouring samples of which at least one is in the grid; the outputs then stay as they were.
  */
-uint32_t contour_smoothed_vertex(const double *values, size_t count, double threshold, size_t dx, size_t dy,
-                                 const uint16_t *points, size_t points_words, const uint32_t *directory,
+uint32_t contour_smoothed_vertex(const double *values, size_t count, double threshold, uint32_t rule, size_t dx,
+                                 size_t dy, const uint16_t *points, size_t points_words, const uint32_t *directory,
                                  size_t directory_words, uint32_t rings, uint32_t ring, uint32_t vertex,
                                  uint32_t *x_kind, double *x_fraction, uint32_t *y_kind, double *y_fraction);
 

@@ -5,7 +5,7 @@
  *     const double values[] = {1, 1, 1, 1, 0, 1, 1, 1, 1};
  *     const contour_terrain terrain = {values, 9, 3, 3};
  *     contour_tables tables = contour_easy_tables();
- *     uint32_t number = contour_easy_contours(&tables, terrain, 1);
+ *     uint32_t number = contour_easy_contours(&tables, terrain, 1, CONTOUR_AT_LEAST);
  *     if (number != CONTOUR_OK)
  *         fprintf(stderr, "%s\n", contour_strerror(number));
  *     for (uint32_t k = 0; k < tables.rings; k++) {
@@ -21,6 +21,9 @@
  * They are sized by the first report alone, since R is at most a fourth of the segments: so a terrain is stitched
  * once. Words that are not needed are never written.
  *
+ * The rule behind a threshold, or behind a list of them, is that of contour.h: a sample is above when its value is at
+ * least the threshold under CONTOUR_AT_LEAST, and when it is more under CONTOUR_MORE_THAN.
+ *
  * Of the contour in the tables, contour_easy_fate says why a ring is what it is, contour_easy_answer what a polygon
  * answers for a ring, and contour_easy_smoothed_vertex what smoothing does to a vertex. They change no table:
  *
@@ -31,7 +34,7 @@
  * A terrain that comes row by row:
  *
  *     contour_rows rows = contour_easy_rows();
- *     uint32_t number = contour_easy_begin(&rows, 1, dx, dy);
+ *     uint32_t number = contour_easy_begin(&rows, 1, CONTOUR_AT_LEAST, dx, dy);
  *     for (size_t y = 0; number == CONTOUR_OK && y < dy; y++) {
  *         ... the next row's dx values ...
  *         number = contour_easy_row(&rows, values, dx);
@@ -207,56 +210,62 @@ static inline void contour_easy_clear(contour_tables *tables) {
 }
 
 /* What contour_rings and contour_contours have in common. */
-typedef uint32_t contour_easy_build(const double *, size_t, double, size_t, size_t, uint32_t *, size_t, uint32_t *,
-                                    size_t, uint16_t *, size_t, uint32_t *, size_t, uint32_t *);
+typedef uint32_t contour_easy_build(const double *, size_t, double, uint32_t, size_t, size_t, uint32_t *, size_t,
+                                    uint32_t *, size_t, uint16_t *, size_t, uint32_t *, size_t, uint32_t *);
 
 static inline uint32_t contour_easy_draw(contour_tables *tables, contour_terrain terrain, double threshold,
-                                         contour_easy_build *build) {
+                                         uint32_t rule, contour_easy_build *build) {
     uint32_t segments, peak, number;
     contour_easy_clear(tables);
-    number = contour_first_report(terrain.values, terrain.count, threshold, terrain.dx, terrain.dy, &segments, &peak);
+    number = contour_first_report(terrain.values, terrain.count, threshold, rule, terrain.dx, terrain.dy, &segments,
+                                  &peak);
     if (number == CONTOUR_OK)
         number = contour_easy_lend_points(tables, terrain.dx, 1, segments, peak);
     if (number != CONTOUR_OK)
         return number;
-    return build(terrain.values, terrain.count, threshold, terrain.dx, terrain.dy, tables->lines,
+    return build(terrain.values, terrain.count, threshold, rule, terrain.dx, terrain.dy, tables->lines,
                  tables->lines_words, tables->links, tables->links_words, tables->points, tables->points_words,
                  tables->directory, tables->directory_words, &tables->rings);
 }
 
 /* The rings, as contour_rings draws them. */
-static inline uint32_t contour_easy_rings(contour_tables *tables, contour_terrain terrain, double threshold) {
-    return contour_easy_draw(tables, terrain, threshold, contour_rings);
+static inline uint32_t contour_easy_rings(contour_tables *tables, contour_terrain terrain, double threshold,
+                                          uint32_t rule) {
+    return contour_easy_draw(tables, terrain, threshold, rule, contour_rings);
 }
 
 /* The contour, as contour_contours draws it: polygons and holes. */
-static inline uint32_t contour_easy_contours(contour_tables *tables, contour_terrain terrain, double threshold) {
-    return contour_easy_draw(tables, terrain, threshold, contour_contours);
+static inline uint32_t contour_easy_contours(contour_tables *tables, contour_terrain terrain, double threshold,
+                                             uint32_t rule) {
+    return contour_easy_draw(tables, terrain, threshold, rule, contour_contours);
 }
 
 /* The band of thresholds k and k + 1 of a list, as contour_isobands draws it: see there what to expect. */
 static inline uint32_t contour_easy_isobands(contour_tables *tables, contour_terrain terrain,
-                                             const double *thresholds, size_t thresholds_count, size_t k) {
+                                             const double *thresholds, size_t thresholds_count, uint32_t rule,
+                                             size_t k) {
     uint32_t segments, peak, number;
     contour_easy_clear(tables);
-    number = contour_band_first_report(terrain.values, terrain.count, thresholds, thresholds_count, k, terrain.dx,
-                                       terrain.dy, &segments, &peak);
+    number = contour_band_first_report(terrain.values, terrain.count, thresholds, thresholds_count, rule, k,
+                                       terrain.dx, terrain.dy, &segments, &peak);
     if (number == CONTOUR_OK)
         number = contour_easy_lend_points(tables, terrain.dx, 2, segments, peak);
     if (number != CONTOUR_OK)
         return number;
-    return contour_isobands(terrain.values, terrain.count, thresholds, thresholds_count, k, terrain.dx, terrain.dy,
-                            tables->lines, tables->lines_words, tables->links, tables->links_words, tables->points,
-                            tables->points_words, tables->directory, tables->directory_words, &tables->rings);
+    return contour_isobands(terrain.values, terrain.count, thresholds, thresholds_count, rule, k, terrain.dx,
+                            terrain.dy, tables->lines, tables->lines_words, tables->links, tables->links_words,
+                            tables->points, tables->points_words, tables->directory, tables->directory_words,
+                            &tables->rings);
 }
 
 /* The lines, as contour_lines draws them, smoothed unless smooth is 0. */
 static inline uint32_t contour_easy_lines(contour_tables *tables, contour_terrain terrain, double threshold,
-                                          uint32_t smooth, contour_placement at) {
+                                          uint32_t rule, uint32_t smooth, contour_placement at) {
     uint32_t segments, peak, number;
     size_t most, needed;
     contour_easy_clear(tables);
-    number = contour_first_report(terrain.values, terrain.count, threshold, terrain.dx, terrain.dy, &segments, &peak);
+    number = contour_first_report(terrain.values, terrain.count, threshold, rule, terrain.dx, terrain.dy, &segments,
+                                  &peak);
     if (number == CONTOUR_OK)
         number = contour_easy_lend(tables, terrain.dx, 1, segments, peak, &most);
     if (number != CONTOUR_OK)
@@ -266,10 +275,10 @@ static inline uint32_t contour_easy_lines(contour_tables *tables, contour_terrai
         (double *)contour_easy_room(tables->vertices, &tables->vertices_words, needed, sizeof(double));
     if (tables->vertices_words < needed)
         return CONTOUR_NO_MEMORY;
-    return contour_lines(terrain.values, terrain.count, threshold, terrain.dx, terrain.dy, smooth, at.x_origin,
-                         at.y_origin, at.x_step, at.y_step, tables->lines, tables->lines_words, tables->links,
-                         tables->links_words, tables->vertices, tables->vertices_words, tables->directory,
-                         tables->directory_words, &tables->rings);
+    return contour_lines(terrain.values, terrain.count, threshold, rule, terrain.dx, terrain.dy, smooth,
+                         at.x_origin, at.y_origin, at.x_step, at.y_step, tables->lines, tables->lines_words,
+                         tables->links, tables->links_words, tables->vertices, tables->vertices_words,
+                         tables->directory, tables->directory_words, &tables->rings);
 }
 
 /* Writes the contour or the band in the tables as GeoJSON, as contour_geojson does, to tables->text. Returns
@@ -309,13 +318,13 @@ static inline uint32_t contour_easy_answer(const contour_tables *tables, uint32_
 }
 
 /* What smoothing does to a vertex of ring k, as contour_smoothed_vertex says. The rings of a contour are the lines of
- * its terrain and threshold, vertex by vertex. */
+ * its terrain, threshold and rule, vertex by vertex. */
 static inline uint32_t contour_easy_smoothed_vertex(const contour_tables *tables, contour_terrain terrain,
-                                                    double threshold, uint32_t k, uint32_t vertex,
+                                                    double threshold, uint32_t rule, uint32_t k, uint32_t vertex,
                                                     contour_coordinate *x, contour_coordinate *y) {
-    return contour_smoothed_vertex(terrain.values, terrain.count, threshold, terrain.dx, terrain.dy, tables->points,
-                                   tables->points_words, tables->directory, tables->directory_words, tables->rings, k,
-                                   vertex, &x->kind, &x->fraction, &y->kind, &y->fraction);
+    return contour_smoothed_vertex(terrain.values, terrain.count, threshold, rule, terrain.dx, terrain.dy,
+                                   tables->points, tables->points_words, tables->directory, tables->directory_words,
+                                   tables->rings, k, vertex, &x->kind, &x->fraction, &y->kind, &y->fraction);
 }
 
 /* A terrain that was not begun: a row is refused with 13 or 14, and the end with 14. */
@@ -333,10 +342,10 @@ static inline void contour_easy_free_rows(contour_rows *rows) {
 
 /* Begins a terrain, in the memory of the one before. Returns CONTOUR_OK; or 1, and the one before goes on; or
  * CONTOUR_NO_MEMORY, and none is begun. */
-static inline uint32_t contour_easy_begin(contour_rows *rows, double threshold, size_t dx, size_t dy) {
+static inline uint32_t contour_easy_begin(contour_rows *rows, double threshold, uint32_t rule, size_t dx, size_t dy) {
     contour_tables *t = &rows->tables;
     size_t needed = CONTOUR_ROWS_OPEN_WORDS(dx);
-    uint32_t number = contour_rows_begin(threshold, dx, dy, rows->state);
+    uint32_t number = contour_rows_begin(threshold, rule, dx, dy, rows->state);
     if (number != CONTOUR_OK)
         return number;
     contour_easy_clear(t);

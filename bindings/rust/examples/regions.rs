@@ -1,7 +1,7 @@
 //! Prints the contour and the bands of a 7 by 3 terrain as polygons and holes. One set of tables serves all
 //! three.
 
-use nigrulent::{Point, Refusal, Regions, Tables, Terrain};
+use nigrulent::{Point, Refusal, Regions, Rule, Tables, Terrain};
 
 /// A plate with a hole and a peak, and a small hill beside it.
 #[rustfmt::skip]
@@ -20,9 +20,10 @@ fn main() -> Result<(), Refusal> {
         &tables.contours(&terrain, 1.0)?.to_regions(),
     );
     for (k, title) in ["band from 1 to 2", "band from 2 to 2"].iter().enumerate() {
-        print(title, &tables.isobands(&terrain, &LEVELS, k)?.to_regions());
+        let band = tables.isobands(&terrain, &LEVELS, Rule::AtLeast, k)?;
+        print(title, &band.to_regions());
     }
-    if let Err(refusal) = tables.isobands(&terrain, &LEVELS, 2) {
+    if let Err(refusal) = tables.isobands(&terrain, &LEVELS, Rule::AtLeast, 2) {
         println!("band from the last threshold: refusal {}", refusal.number());
     }
     Ok(())

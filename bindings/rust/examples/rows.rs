@@ -11,7 +11,7 @@ fn main() -> Result<(), Box<dyn Error>> {
     let mut lines = io::stdin().lock().lines();
     let head = lines.next().ok_or("there is no first line")??;
     let (dx, dy, threshold) = match head.split_whitespace().collect::<Vec<_>>()[..] {
-        [dx, dy, threshold] => (dx.parse()?, dy.parse()?, threshold.parse()?),
+        [dx, dy, threshold] => (dx.parse()?, dy.parse()?, threshold.parse::<f64>()?),
         _ => return Err("the first line wants columns, rows and threshold".into()),
     };
     let mut rows = Rows::begin(threshold, dx, dy)?;

@@ -1,13 +1,14 @@
 //! The functions of include/contour.h, all of them: compare and bench declare them by this file too.
 
 /// The words of a state between two rows.
-pub const STATE_WORDS: usize = 140;
+pub const STATE_WORDS: usize = 141;
 
 extern "C" {
     pub fn contour_first_report(
         values: *const f64,
         count: usize,
         threshold: f64,
+        rule: u32,
         dx: usize,
         dy: usize,
         segments: *mut u32,
@@ -17,6 +18,7 @@ extern "C" {
         values: *const f64,
         count: usize,
         threshold: f64,
+        rule: u32,
         dx: usize,
         dy: usize,
         lines: *mut u32,
@@ -32,6 +34,7 @@ extern "C" {
         values: *const f64,
         count: usize,
         threshold: f64,
+        rule: u32,
         dx: usize,
         dy: usize,
         lines: *mut u32,
@@ -48,6 +51,7 @@ extern "C" {
         values: *const f64,
         count: usize,
         threshold: f64,
+        rule: u32,
         dx: usize,
         dy: usize,
         lines: *mut u32,
@@ -65,6 +69,7 @@ extern "C" {
         count: usize,
         thresholds: *const f64,
         thresholds_count: usize,
+        rule: u32,
         k: usize,
         dx: usize,
         dy: usize,
@@ -76,6 +81,7 @@ extern "C" {
         count: usize,
         thresholds: *const f64,
         thresholds_count: usize,
+        rule: u32,
         k: usize,
         dx: usize,
         dy: usize,
@@ -93,6 +99,7 @@ extern "C" {
         count: usize,
         thresholds: *const f64,
         thresholds_count: usize,
+        rule: u32,
         k: usize,
         dx: usize,
         dy: usize,
@@ -110,6 +117,7 @@ extern "C" {
         values: *const f64,
         count: usize,
         threshold: f64,
+        rule: u32,
         dx: usize,
         dy: usize,
         smooth: u32,
@@ -127,7 +135,7 @@ extern "C" {
         directory_words: usize,
         rings: *mut u32,
     ) -> u32;
-    pub fn contour_rows_begin(threshold: f64, dx: usize, dy: usize, state: *mut u32) -> u32;
+    pub fn contour_rows_begin(threshold: f64, rule: u32, dx: usize, dy: usize, state: *mut u32) -> u32;
     pub fn contour_rows_row(
         state: *mut u32,
         values: *const f64,
@@ -205,6 +213,7 @@ extern "C" {
         values: *const f64,
         count: usize,
         threshold: f64,
+        rule: u32,
         dx: usize,
         dy: usize,
         points: *const u16,

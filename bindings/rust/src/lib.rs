@@ -4,7 +4,8 @@
 //! A [`Terrain`] is its values and sides. Its own functions hand out plain vectors. [`Tables`] keeps what the
 //! library is lent from call to call, and hands out rings as slices that it lends in turn, with the number,
 //! class and owner of each; [`Rings::fate`] says why a ring of a contour has them. [`Rows`] takes a terrain that
-//! comes row by row and is never held.
+//! comes row by row and is never held. A [`Level`] says which samples are above: those that are at least a
+//! threshold, for which a number does, or those that are more.
 //!
 //! Coordinates are doubled whole numbers: sample (column, row) stands at (2·column + 1, 2·row + 1). Those of
 //! lines are floats.
@@ -29,6 +30,7 @@ mod drawn;
 #[allow(dead_code)]
 mod ffi;
 mod geojson;
+mod level;
 mod refusal;
 mod regions;
 mod ring_set;
@@ -39,6 +41,7 @@ mod why;
 
 pub use drawn::{Drawn, Fate, Lines, Record, Rings};
 pub use geojson::{check, geojson};
+pub use level::{Level, Rule};
 pub use refusal::Refusal;
 pub use regions::{Polygon, Regions, Ring};
 pub use rows::Rows;

@@ -2,7 +2,7 @@
 
 use crate::drawn::Rings;
 use crate::ffi::STATE_WORDS;
-use crate::{ffi, Point, Refusal};
+use crate::{ffi, Level, Point, Refusal};
 
 /// A table that grows has this length at least.
 const LEAST: usize = 64;
@@ -60,15 +60,17 @@ pub struct Rows {
 }
 
 impl Rows {
-    /// A terrain of dx columns and dy rows, of which there is no row yet, at a threshold.
+    /// A terrain of dx columns and dy rows, of which there is no row yet, at a level.
     ///
     /// # Errors
     ///
     /// [`Refusal::Side`] where a side is 0 or above 4,096.
-    pub fn begin(threshold: f64, dx: usize, dy: usize) -> Result<Self, Refusal> {
+    pub fn begin(level: impl Into<Level>, dx: usize, dy: usize) -> Result<Self, Refusal> {
+        let Level { threshold, rule } = level.into();
         let mut state = [0; STATE_WORDS];
+        let words = state.as_mut_ptr();
         // Safety: the library writes the words of a state.
-        Refusal::of(unsafe { ffi::contour_rows_begin(threshold, dx, dy, state.as_mut_ptr()) })?;
+        Refusal::of(unsafe { ffi::contour_rows_begin(threshold, rule.number(), dx, dy, words) })?;
         Ok(Rows {
             state,
             // With so many words no row finds the open table short.

@@ -1,7 +1,7 @@
 //! The tables that the library is lent: sized by its first report, and kept from call to call.
 
 use crate::drawn::{Lines, Rings};
-use crate::{ffi, Placement, Point, Refusal, Terrain, Vertex};
+use crate::{ffi, Level, Placement, Point, Refusal, Rule, Terrain, Vertex};
 
 /// The tables that the library is lent. They grow to what a call needs and stay for the next one, so that who
 /// draws many terrains, or one at many thresholds, takes memory once. What a call has drawn is borrowed from
@@ -37,25 +37,30 @@ pub struct Tables {
 
 /// What is drawn, and at which thresholds.
 #[derive(Clone, Copy)]
-enum Level<'a> {
-    Rings(f64),
-    Contours(f64),
-    Band(&'a [f64], usize),
+enum Figure<'a> {
+    Rings(Level),
+    Contours(Level),
+    Band(&'a [f64], Rule, usize),
 }
 
 /// Calls one of three functions, for rings, contours or a band, with a terrain and what else it takes.
 macro_rules! call {
-    ($terrain:expr, $level:expr, [$rings:ident, $contours:ident, $band:ident], $($rest:expr),* $(,)?) => {{
+    ($terrain:expr, $figure:expr, [$rings:ident, $contours:ident, $band:ident], $($rest:expr),* $(,)?) => {{
         let (values, dx, dy) = ($terrain.values(), $terrain.dx(), $terrain.dy());
         let (at, count) = (values.as_ptr(), values.len());
         // Safety: the library reads the values and the thresholds and writes the tables and outputs lent,
         // within the lengths passed beside them.
         Refusal::of(unsafe {
-            match $level {
-                Level::Rings(t) => ffi::$rings(at, count, t, dx, dy, $($rest),*),
-                Level::Contours(t) => ffi::$contours(at, count, t, dx, dy, $($rest),*),
-                Level::Band(list, k) => {
-                    ffi::$band(at, count, list.as_ptr(), list.len(), k, dx, dy, $($rest),*)
+            match $figure {
+                Figure::Rings(Level { threshold, rule }) => {
+                    ffi::$rings(at, count, threshold, rule.number(), dx, dy, $($rest),*)
+                }
+                Figure::Contours(Level { threshold, rule }) => {
+                    ffi::$contours(at, count, threshold, rule.number(), dx, dy, $($rest),*)
+                }
+                Figure::Band(list, rule, k) => {
+                    let (thresholds, length) = (list.as_ptr(), list.len());
+                    ffi::$band(at, count, thresholds, length, rule.number(), k, dx, dy, $($rest),*)
                 }
             }
         })
@@ -73,8 +78,12 @@ impl Tables {
     /// # Errors
     ///
     /// None that the library leaves for a terrain; should it refuse all the same, its number.
-    pub fn rings(&mut self, terrain: &Terrain, threshold: f64) -> Result<Rings<'_>, Refusal> {
-        self.draw(terrain, Level::Rings(threshold))
+    pub fn rings(
+        &mut self,
+        terrain: &Terrain,
+        level: impl Into<Level>,
+    ) -> Result<Rings<'_>, Refusal> {
+        self.draw(terrain, Figure::Rings(level.into()))
     }
 
     /// The rings with class and owner, as [`Terrain::contours`] sorts them into polygons.
@@ -82,8 +91,12 @@ impl Tables {
     /// # Errors
     ///
     /// As of [`rings`](Tables::rings).
-    pub fn contours(&mut self, terrain: &Terrain, threshold: f64) -> Result<Rings<'_>, Refusal> {
-        self.draw(terrain, Level::Contours(threshold))
+    pub fn contours(
+        &mut self,
+        terrain: &Terrain,
+        level: impl Into<Level>,
+    ) -> Result<Rings<'_>, Refusal> {
+        self.draw(terrain, Figure::Contours(level.into()))
     }
 
     /// The rings of a band, by size, with class and owner, as [`Terrain::isobands`] sorts them into polygons.
@@ -96,9 +109,10 @@ impl Tables {
         &mut self,
         terrain: &Terrain,
         thresholds: &[f64],
+        rule: Rule,
         k: usize,
     ) -> Result<Rings<'_>, Refusal> {
-        self.draw(terrain, Level::Band(thresholds, k))
+        self.draw(terrain, Figure::Band(thresholds, rule, k))
     }
 
     /// The lines, as [`Terrain::lines`] hands them out.
@@ -109,11 +123,12 @@ impl Tables {
     pub fn lines(
         &mut self,
         terrain: &Terrain,
-        threshold: f64,
+        level: impl Into<Level>,
         smooth: bool,
         placement: Placement,
     ) -> Result<Lines<'_>, Refusal> {
-        let most_points = self.lend(terrain, Level::Rings(threshold))?;
+        let level = level.into();
+        let most_points = self.lend(terrain, Figure::Rings(level))?;
         make_room(&mut self.vertices, most_points);
         let mut rings = 0;
         // Safety: the library reads the values and writes the tables and outputs lent, within the lengths
@@ -122,7 +137,8 @@ impl Tables {
             ffi::contour_lines(
                 terrain.values().as_ptr(),
                 terrain.values().len(),
-                threshold,
+                level.threshold,
+                level.rule.number(),
                 terrain.dx(),
                 terrain.dy(),
                 smooth.into(),
@@ -148,13 +164,13 @@ impl Tables {
         })
     }
 
-    fn draw(&mut self, terrain: &Terrain, level: Level) -> Result<Rings<'_>, Refusal> {
-        let most_points = self.lend(terrain, level)?;
+    fn draw(&mut self, terrain: &Terrain, figure: Figure) -> Result<Rings<'_>, Refusal> {
+        let most_points = self.lend(terrain, figure)?;
         make_room(&mut self.points, most_points);
         let mut rings = 0;
         call!(
             terrain,
-            level,
+            figure,
             [contour_rings, contour_contours, contour_isobands],
             self.open.as_mut_ptr(),
             self.open.len(),
@@ -175,11 +191,11 @@ impl Tables {
 
     /// Room in the work tables and the directory, by the first report. Gives the number of points that there
     /// are at most. A band has two sets of rings, of so many segments each.
-    fn lend(&mut self, terrain: &Terrain, level: Level) -> Result<usize, Refusal> {
+    fn lend(&mut self, terrain: &Terrain, figure: Figure) -> Result<usize, Refusal> {
         let (mut segments, mut peak) = (0, 0);
         call!(
             terrain,
-            level,
+            figure,
             [
                 contour_first_report,
                 contour_first_report,
@@ -189,8 +205,8 @@ impl Tables {
             &mut peak,
         )?;
         let (segments, peak) = (segments as usize, peak as usize);
-        let all_segments = match level {
-            Level::Band(..) => 2 * segments,
+        let all_segments = match figure {
+            Figure::Band(..) => 2 * segments,
             _ => segments,
         };
         let most_rings = all_segments / 4;

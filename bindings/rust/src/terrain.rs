@@ -1,6 +1,6 @@
 //! A terrain as a value, and what is drawn of it as plain vectors.
 
-use crate::{Point, Refusal, Regions, Tables, Vertex};
+use crate::{Level, Point, Refusal, Regions, Rule, Tables, Vertex};
 
 /// The largest side of a terrain.
 pub const SIDE_LIMIT: usize = 4096;
@@ -8,8 +8,8 @@ pub const SIDE_LIMIT: usize = 4096;
 /// The samples of a terrain, row after row, with its dx columns and dy rows. A value of this type has sides
 /// that the library takes and as many values as they say.
 ///
-/// A sample is above when its value >= threshold; a NaN on either side is not above. Outside the terrain
-/// nothing is above.
+/// The [`Level`] that is drawn at says which samples are above; a number in its place stands for those whose
+/// value >= it. A NaN is not above, and outside the terrain nothing is.
 ///
 /// The functions here take tables for one call each. Who draws often keeps [`Tables`].
 #[derive(Clone, Copy, Debug, PartialEq)]
@@ -98,9 +98,9 @@ impl<'a> Terrain<'a> {
     /// # Ok(())
     /// # }
     /// ```
-    pub fn rings(&self, threshold: f64) -> Result<Vec<Vec<Point>>, Refusal> {
+    pub fn rings(&self, level: impl Into<Level>) -> Result<Vec<Vec<Point>>, Refusal> {
         let mut tables = Tables::new();
-        let rings = tables.rings(self, threshold)?;
+        let rings = tables.rings(self, level)?;
         Ok(rings.iter().map(<[Point]>::to_vec).collect())
     }
 
@@ -121,17 +121,18 @@ impl<'a> Terrain<'a> {
     /// # Ok(())
     /// # }
     /// ```
-    pub fn contours(&self, threshold: f64) -> Result<Regions, Refusal> {
-        Ok(Tables::new().contours(self, threshold)?.to_regions())
+    pub fn contours(&self, level: impl Into<Level>) -> Result<Regions, Refusal> {
+        Ok(Tables::new().contours(self, level)?.to_regions())
     }
 
-    /// The band of thresholds k and k + 1 of a list, counted from 0, by the library's rule: the rings of both
-    /// thresholds, as polygons and interior rings. Polygons come in the order of their sizes, the smallest
-    /// first, and so do the interior rings of each.
+    /// The band of thresholds k and k + 1 of a list, counted from 0, as the library draws it: the rings of both
+    /// thresholds, by one rule, as polygons and interior rings. Polygons come in the order of their sizes, the
+    /// smallest first, and so do the interior rings of each.
     ///
     /// The rings of the two thresholds share edges wherever the terrain jumps over the band. The polygons are
     /// then not valid for many readers, and samples of the band can be in none of them. Who wants a band for a
-    /// map draws the contour at 1 of a terrain that is 1 where low <= value < high and 0 elsewhere.
+    /// map draws the contour at 1 of a terrain that is 1 where low <= value < high, or under [`Rule::MoreThan`]
+    /// where low < value <= high, and 0 elsewhere.
     ///
     /// # Errors
     ///
@@ -139,26 +140,30 @@ impl<'a> Terrain<'a> {
     /// no pair k and k + 1.
     ///
     /// ```
-    /// use nigrulent::{Refusal, Terrain};
+    /// use nigrulent::{Refusal, Rule, Terrain};
     /// # fn main() -> Result<(), nigrulent::Refusal> {
     /// let terrain = Terrain::new(&[1.0], 1, 1)?;
-    /// let band = terrain.isobands(&[1.0, 1.0], 0)?;
+    /// let band = terrain.isobands(&[1.0, 1.0], Rule::AtLeast, 0)?;
     /// assert_eq!((band.polygons.len(), band.dropped.len()), (0, 2));
-    /// assert_eq!(terrain.isobands(&[1.0], 0), Err(Refusal::Thresholds));
-    /// assert_eq!(terrain.isobands(&[1.0, 2.0], 1), Err(Refusal::Pair));
+    /// // The sample is more than 0 and not more than 1, so there is the ring of 0 alone.
+    /// let band = terrain.isobands(&[0.0, 1.0], Rule::MoreThan, 0)?;
+    /// assert_eq!((band.polygons.len(), band.dropped.len()), (1, 0));
+    /// assert_eq!(terrain.isobands(&[1.0], Rule::AtLeast, 0), Err(Refusal::Thresholds));
+    /// assert_eq!(terrain.isobands(&[1.0, 2.0], Rule::AtLeast, 1), Err(Refusal::Pair));
     /// # Ok(())
     /// # }
     /// ```
-    pub fn isobands(&self, thresholds: &[f64], k: usize) -> Result<Regions, Refusal> {
-        Ok(Tables::new().isobands(self, thresholds, k)?.to_regions())
+    pub fn isobands(&self, thresholds: &[f64], rule: Rule, k: usize) -> Result<Regions, Refusal> {
+        let mut tables = Tables::new();
+        Ok(tables.isobands(self, thresholds, rule, k)?.to_regions())
     }
 
     /// The lines: the rings as floats, in the same order. Before they are placed, sample (column, row) stands at
     /// (column + 0.5, row + 0.5).
     ///
     /// A vertex stands midway between a sample that is above and one that is not. Smoothed, it stands where the
-    /// threshold lies between their values; at the sides of the terrain it stays. Where a number is infinite,
-    /// NaN or huge, coordinates may be infinite or NaN.
+    /// threshold lies between their values, whatever the rule; at the sides of the terrain it stays. Where a number
+    /// is infinite, NaN or huge, coordinates may be infinite or NaN.
     ///
     /// # Errors
     ///
@@ -176,12 +181,12 @@ impl<'a> Terrain<'a> {
     /// ```
     pub fn lines(
         &self,
-        threshold: f64,
+        level: impl Into<Level>,
         smooth: bool,
         placement: Placement,
     ) -> Result<Vec<Vec<Vertex>>, Refusal> {
         let mut tables = Tables::new();
-        let lines = tables.lines(self, threshold, smooth, placement)?;
+        let lines = tables.lines(self, level, smooth, placement)?;
         Ok(lines.iter().map(<[Vertex]>::to_vec).collect())
     }
 
@@ -201,8 +206,8 @@ impl<'a> Terrain<'a> {
     /// # Ok(())
     /// # }
     /// ```
-    pub fn contours_geojson(&self, threshold: f64) -> Result<String, Refusal> {
-        Tables::new().contours(self, threshold)?.geojson()
+    pub fn contours_geojson(&self, level: impl Into<Level>) -> Result<String, Refusal> {
+        Tables::new().contours(self, level)?.geojson()
     }
 
     /// What [`isobands`](Terrain::isobands) draws, as GeoJSON text of the same form.
@@ -210,14 +215,20 @@ impl<'a> Terrain<'a> {
     /// # Errors
     ///
     /// Those of [`isobands`](Terrain::isobands).
-    pub fn isobands_geojson(&self, thresholds: &[f64], k: usize) -> Result<String, Refusal> {
-        Tables::new().isobands(self, thresholds, k)?.geojson()
+    pub fn isobands_geojson(
+        &self,
+        thresholds: &[f64],
+        rule: Rule,
+        k: usize,
+    ) -> Result<String, Refusal> {
+        let mut tables = Tables::new();
+        tables.isobands(self, thresholds, rule, k)?.geojson()
     }
 }
 
 #[cfg(test)]
 mod tests {
-    use super::{Refusal, Terrain};
+    use super::{Refusal, Rule, Terrain};
     use crate::ffi;
 
     /// A terrain is refused as the library refuses it.
@@ -234,6 +245,7 @@ mod tests {
                         values.as_ptr(),
                         count,
                         0.0,
+                        Rule::AtLeast.number(),
                         dx,
                         dy,
                         &mut segments,

@@ -2,7 +2,7 @@
 
 use crate::drawn::{Rings, NO_OWNER, POLYGON};
 use crate::ring_set::read;
-use crate::{Refusal, Terrain};
+use crate::{Level, Refusal, Terrain};
 
 /// The vertex word where none decides.
 const NO_VERTEX: u32 = u32::MAX;
@@ -137,8 +137,8 @@ impl Rings<'_> {
     }
 
     /// What smoothing does to a vertex of a ring, x first. The rings of a contour are the
-    /// [`lines`](Terrain::lines) of its terrain and threshold, number by number and vertex by vertex: before it is
-    /// placed, the vertex of the smoothed line is what this says.
+    /// [`lines`](Terrain::lines) of its terrain and level, number by number and vertex by vertex: before it is
+    /// placed, the vertex of the smoothed line is what this says. The rule of the level changes no fraction.
     ///
     /// # Errors
     ///
@@ -163,15 +163,16 @@ impl Rings<'_> {
     pub fn smoothed_vertex(
         &self,
         terrain: &Terrain,
-        threshold: f64,
+        level: impl Into<Level>,
         ring: u32,
         vertex: u32,
     ) -> Result<[Coordinate; 2], Refusal> {
+        let Level { threshold, rule } = level.into();
         let (values, dx, dy) = (terrain.values(), terrain.dx(), terrain.dy());
         let (mut kinds, mut fractions) = ([STAYED; 2], [0.0; 2]);
         let ([x_kind, y_kind], [x_fraction, y_fraction]) = (&mut kinds, &mut fractions);
         read!(
-            contour_smoothed_vertex[values.as_ptr(), values.len(), threshold, dx, dy],
+            contour_smoothed_vertex[values.as_ptr(), values.len(), threshold, rule.number(), dx, dy],
             self,
             ring,
             vertex,

@@ -2,26 +2,15 @@
 
 mod terrains;
 
-use nigrulent::{Fate, Point, Refusal, Ring, Rows, Terrain, SIDE_LIMIT};
-use terrains::{for_terrains, Random};
+use nigrulent::{Fate, Level, Point, Refusal, Ring, Rows, Terrain, SIDE_LIMIT};
+use terrains::{for_terrains, row_by_row, Random};
 
 /// The rings of the terrain as a whole, by number.
-fn whole(terrain: &Terrain, threshold: f64) -> Result<Vec<Ring>, Refusal> {
-    let numbered = (0..).zip(terrain.rings(threshold)?);
+fn whole(terrain: &Terrain, level: Level) -> Result<Vec<Ring>, Refusal> {
+    let numbered = (0..).zip(terrain.rings(level)?);
     Ok(numbered
         .map(|(number, points)| Ring { number, points })
         .collect())
-}
-
-/// The rings of all rows and of the end, one after the other.
-fn row_by_row(terrain: &Terrain, threshold: f64) -> Result<Vec<Ring>, Refusal> {
-    let mut rows = Rows::begin(threshold, terrain.dx(), terrain.dy())?;
-    let mut rings = Vec::new();
-    for row in terrain.values().chunks(terrain.dx()) {
-        rings.extend(rows.push(row)?.to_rings());
-    }
-    rings.extend(rows.finish()?.to_rings());
-    Ok(rings)
 }
 
 /// The lowest row of cells that a ring has points in.
@@ -34,21 +23,17 @@ fn last_row(ring: &[Point]) -> usize {
 
 #[test]
 fn all_rows_together_give_the_rings_of_the_whole() {
-    for_terrains(|terrain, threshold| {
-        let rings = row_by_row(terrain, threshold)?;
-        assert_eq!(
-            rings,
-            whole(terrain, threshold)?,
-            "{terrain:?}, {threshold}"
-        );
+    for_terrains(|terrain, level| {
+        let rings = row_by_row(terrain, level)?;
+        assert_eq!(rings, whole(terrain, level)?, "{terrain:?}, {level:?}");
         Ok(())
     });
 }
 
 #[test]
 fn a_ring_is_handed_out_as_soon_as_its_last_row_is_there() {
-    for_terrains(|terrain, threshold| {
-        let mut rows = Rows::begin(threshold, terrain.dx(), terrain.dy())?;
+    for_terrains(|terrain, level| {
+        let mut rows = Rows::begin(level, terrain.dx(), terrain.dy())?;
         let mut count = 0;
         for (y, row) in terrain.values().chunks(terrain.dx()).enumerate() {
             let closed = rows.push(row)?;
@@ -73,14 +58,14 @@ fn a_ring_is_handed_out_as_soon_as_its_last_row_is_there() {
 
 #[test]
 fn a_row_of_no_numbers_takes_the_place_of_the_end() {
-    for_terrains(|terrain, threshold| {
-        let mut rows = Rows::begin(threshold, terrain.dx(), SIDE_LIMIT)?;
+    for_terrains(|terrain, level| {
+        let mut rows = Rows::begin(level, terrain.dx(), SIDE_LIMIT)?;
         let mut rings = Vec::new();
         let below = vec![f64::NAN; terrain.dx()];
         for row in terrain.values().chunks(terrain.dx()).chain([&below[..]]) {
             rings.extend(rows.push(row)?.to_rings());
         }
-        assert_eq!(rings, whole(terrain, threshold)?);
+        assert_eq!(rings, whole(terrain, level)?);
         Ok(())
     });
 }
@@ -103,7 +88,7 @@ fn long_wide_and_large_terrains() {
             .collect();
         for values in [noise, comb] {
             let terrain = Terrain::new(&values, dx, dy).expect("sides and count are right");
-            let [whole, rows] = [whole, row_by_row].map(|draw| draw(&terrain, 1.0));
+            let [whole, rows] = [whole, row_by_row].map(|draw| draw(&terrain, 1.0.into()));
             assert!(rows.is_ok() && rows == whole, "{dx} by {dy}");
         }
     }
@@ -120,11 +105,11 @@ fn sides_are_refused() {
 
 #[test]
 fn what_is_refused_changes_nothing() {
-    for_terrains(|terrain, threshold| {
+    for_terrains(|terrain, level| {
         let dx = terrain.dx();
-        let mut rows = Rows::begin(threshold, dx, terrain.dy())?;
+        let mut rows = Rows::begin(level, dx, terrain.dy())?;
         let mut rings = Vec::new();
-        let long = vec![threshold; dx + 1];
+        let long = vec![level.threshold; dx + 1];
         for row in terrain.values().chunks(dx) {
             assert_eq!(rows.push(&long).err(), Some(Refusal::Row));
             assert_eq!(rows.push(&long[2..]).err(), Some(Refusal::Row));
@@ -140,7 +125,7 @@ fn what_is_refused_changes_nothing() {
         rings.extend(last);
         assert_eq!(rows.finish().err(), Some(Refusal::Turn));
         assert_eq!(rows.push(&long[1..]).err(), Some(Refusal::Turn));
-        assert_eq!(rings, whole(terrain, threshold)?);
+        assert_eq!(rings, whole(terrain, level)?);
         Ok(())
     });
 }

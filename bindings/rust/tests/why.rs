@@ -4,10 +4,10 @@
 mod terrains;
 
 use nigrulent::{
-    area, contains, Coordinate, Decision, Fate, Place, Placement, Point, Refusal, RingFate, Rings,
-    Rows, Tables, Terrain,
+    area, contains, Coordinate, Decision, Fate, Level, Place, Placement, Point, Refusal, RingFate,
+    Rings, Rows, Tables, Terrain,
 };
-use terrains::{for_terrains, for_terrains_of};
+use terrains::{for_terrains, for_terrains_of, HEIGHTS, THRESHOLDS};
 
 /// 3 by 3 above but the centre.
 const FRAME: [f64; 9] = [1.0, 1.0, 1.0, 1.0, 0.0, 1.0, 1.0, 1.0, 1.0];
@@ -51,8 +51,8 @@ fn recorded(fate: RingFate) -> Fate {
 #[test]
 fn fates_of_a_contour_are_those_of_its_records() {
     let mut tables = Tables::new();
-    for_terrains(|terrain, threshold| {
-        let rings = tables.contours(terrain, threshold)?;
+    for_terrains(|terrain, level| {
+        let rings = tables.contours(terrain, level)?;
         for record in rings.records() {
             let found = rings.fate(record.number)?;
             assert_eq!(found, fate(&rings, record.points)?, "{terrain:?}");
@@ -66,8 +66,9 @@ fn fates_of_a_contour_are_those_of_its_records() {
 #[test]
 fn fates_of_a_band_are_what_a_contour_makes_of_its_rings() {
     let (mut tables, mut undecided) = (Tables::new(), 0);
-    for_terrains(|terrain, threshold| {
-        let rings = tables.isobands(terrain, &[threshold, threshold + 1.0], 0)?;
+    for_terrains(|terrain, level| {
+        let Level { threshold, rule } = level;
+        let rings = tables.isobands(terrain, &[threshold, threshold + 1.0], rule, 0)?;
         for record in rings.records() {
             let found = rings.fate(record.number)?;
             assert_eq!(found, fate(&rings, record.points)?, "{terrain:?}");
@@ -88,8 +89,8 @@ fn fates_of_a_band_are_what_a_contour_makes_of_its_rings() {
 #[test]
 fn each_ring_answers_for_each_by_its_first_vertex_off_the_boundary() {
     let mut tables = Tables::new();
-    for_terrains(|terrain, threshold| {
-        let rings = tables.contours(terrain, threshold)?;
+    for_terrains(|terrain, level| {
+        let rings = tables.contours(terrain, level)?;
         for (polygon, outer) in (0..).zip(rings.iter()) {
             for (ring, tested) in (0..).zip(rings.iter()) {
                 let answer = rings.answer(polygon, ring)?;
@@ -110,34 +111,17 @@ fn smoothed(doubled: u16, coordinate: Coordinate) -> f64 {
     }
 }
 
-/// Numbers of every kind: also such whose difference overflows.
 #[test]
 fn smoothed_vertices_are_those_of_the_lines() {
     let (mut tables, mut moved, mut not_numbers) = (Tables::new(), 0, 0);
-    let infinity = f64::INFINITY;
-    let heights = [
-        0.0,
-        -0.0,
-        0.1,
-        1.0,
-        1.5,
-        7.0,
-        1e-310,
-        1e308,
-        -1e308,
-        infinity,
-        -infinity,
-        f64::NAN,
-    ];
-    let thresholds = [0.0, 0.3, 1.0, 1.5, 1e308, infinity, -infinity];
-    for_terrains_of(&heights, &thresholds, |terrain, threshold| {
-        let lines = terrain.lines(threshold, true, Placement::default())?;
-        let rings = tables.contours(terrain, threshold)?;
+    for_terrains_of(&HEIGHTS, &THRESHOLDS, |terrain, level| {
+        let lines = terrain.lines(level, true, Placement::default())?;
+        let rings = tables.contours(terrain, level)?;
         assert_eq!(rings.len(), lines.len());
         for (record, line) in rings.records().zip(&lines) {
             assert_eq!(record.points.len(), line.len());
             for ((vertex, point), at) in (0..).zip(record.points).zip(line) {
-                let found = rings.smoothed_vertex(terrain, threshold, record.number, vertex)?;
+                let found = rings.smoothed_vertex(terrain, level, record.number, vertex)?;
                 for axis in [0, 1] {
                     let became = smoothed(point[axis], found[axis]);
                     let both_nan = became.is_nan() && at[axis].is_nan();

@@ -3,7 +3,7 @@
 
 mod terrains;
 
-use nigrulent::{area, contains, Fate, Place, Placement, Point, Refusal, Regions, Tables};
+use nigrulent::{area, contains, Fate, Level, Place, Placement, Point, Refusal, Regions, Tables};
 use terrains::for_terrains;
 
 fn takes(outer: &[Point], tested: &[Point]) -> Result<bool, Refusal> {
@@ -50,8 +50,8 @@ fn listed(regions: &Regions) -> Vec<(u32, Fate, &[Point])> {
 
 #[test]
 fn contours_are_numbered_as_rings_and_owned_by_the_rule() {
-    for_terrains(|terrain, threshold| {
-        let rings = terrain.rings(threshold)?;
+    for_terrains(|terrain, level| {
+        let rings = terrain.rings(level)?;
         let rings: Vec<_> = rings.iter().map(Vec::as_slice).collect();
         let areas: Result<Vec<_>, _> = rings.iter().map(|ring| area(ring)).collect();
         let polygons: Vec<_> = areas?.iter().map(|&area| area > 0).collect();
@@ -60,15 +60,18 @@ fn contours_are_numbered_as_rings_and_owned_by_the_rule() {
             .zip(&rings)
             .map(|((number, fate), &ring)| (number, fate, ring))
             .collect();
-        assert_eq!(listed(&terrain.contours(threshold)?), expected);
+        assert_eq!(listed(&terrain.contours(level)?), expected);
         Ok(())
     });
 }
 
 #[test]
 fn bands_are_numbered_by_size_and_owned_by_the_rule() {
-    for_terrains(|terrain, threshold| {
-        let sets = [terrain.rings(threshold)?, terrain.rings(threshold + 1.0)?];
+    for_terrains(|terrain, level| {
+        let Level { threshold, rule } = level;
+        let pair = [threshold, threshold + 1.0];
+        let [lower, upper] = pair.map(|threshold| terrain.rings(Level { threshold, rule }));
+        let sets = [lower?, upper?];
         let mut rings: Vec<_> = sets.iter().flatten().map(Vec::as_slice).collect();
         rings.sort_by_key(|ring| area(ring).map_or(0, |area| area.unsigned_abs() / 4));
         let mut polygons = Vec::new();
@@ -84,7 +87,7 @@ fn bands_are_numbered_by_size_and_owned_by_the_rule() {
             .zip(&rings)
             .map(|((number, fate), &ring)| (number, fate, ring))
             .collect();
-        let band = terrain.isobands(&[threshold, threshold + 1.0], 0)?;
+        let band = terrain.isobands(&pair, rule, 0)?;
         assert_eq!(listed(&band), expected);
         Ok(())
     });
@@ -98,18 +101,18 @@ fn reused_tables_hold_what_tables_of_one_call_hold() {
         y_step: -2.0,
         ..Placement::default()
     };
-    for_terrains(|terrain, threshold| {
-        let pair = [threshold, threshold + 1.0];
-        let rings = tables.rings(terrain, threshold)?;
-        assert!(rings.iter().eq(terrain.rings(threshold)?.iter()));
+    for_terrains(|terrain, level| {
+        let (pair, rule) = ([level.threshold, level.threshold + 1.0], level.rule);
+        let rings = tables.rings(terrain, level)?;
+        assert!(rings.iter().eq(terrain.rings(level)?.iter()));
         assert!(rings
             .records()
             .all(|ring| ring.fate == Fate::Line && ring.owner().is_none()));
 
-        let contour = tables.contours(terrain, threshold)?;
-        assert_eq!(contour.to_regions(), terrain.contours(threshold)?);
+        let contour = tables.contours(terrain, level)?;
+        assert_eq!(contour.to_regions(), terrain.contours(level)?);
         contour.write_geojson(&mut text)?;
-        assert_eq!(text, terrain.contours_geojson(threshold)?.as_bytes());
+        assert_eq!(text, terrain.contours_geojson(level)?.as_bytes());
         for (number, record) in (0..).zip(contour.records()) {
             assert_eq!(
                 (record.number, contour.record(number)),
@@ -118,15 +121,15 @@ fn reused_tables_hold_what_tables_of_one_call_hold() {
         }
         assert_eq!(contour.record(contour.len() as u32), None);
 
-        let band = tables.isobands(terrain, &pair, 0)?;
-        assert_eq!(band.to_regions(), terrain.isobands(&pair, 0)?);
-        assert_eq!(band.geojson()?, terrain.isobands_geojson(&pair, 0)?);
+        let band = tables.isobands(terrain, &pair, rule, 0)?;
+        assert_eq!(band.to_regions(), terrain.isobands(&pair, rule, 0)?);
+        assert_eq!(band.geojson()?, terrain.isobands_geojson(&pair, rule, 0)?);
 
-        let lines = tables.lines(terrain, threshold, true, placement)?;
+        let lines = tables.lines(terrain, level, true, placement)?;
         assert!(lines
             .iter()
-            .eq(terrain.lines(threshold, true, placement)?.iter()));
-        assert_eq!(lines.is_empty(), terrain.rings(threshold)?.is_empty());
+            .eq(terrain.lines(level, true, placement)?.iter()));
+        assert_eq!(lines.is_empty(), terrain.rings(level)?.is_empty());
         Ok(())
     });
 }

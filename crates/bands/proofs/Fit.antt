@@ -6,16 +6,17 @@ use Prim.Native.Nat.{ℕ, suc, _-_, _≤_, _<_}
 use native.Mathlib.Decide.{decLt}
 use native.Mathlib.Omega.{arith}
 use lib.Dec.{ltb}
-use lib.Ieee.{Float, nan}
-use lib.ListN.{length, getD}
+use lib.Ieee.{Float}
+use lib.ListN.{length}
 use borrow.Author.Tests.{lt-ltb, le-ltb, ltb-true}
 use Rattle.error.specs.declared.Refusal.{Refusal}
 use Rattle.error.specs.declared.Refusal.the-variants.{FewThresholds, NoPair}
+use Rattle.scope.specs.declared.Rule.{Rule}
+use Rattle.scope.specs.declared.Level.{Level}
 use Rattle.grid.specs.Grid.{gridFit}
 use Rattle.grid.specs.declared.GridFit.{GridFit}
 use Rattle.grid.specs.declared.GridFit.the-variants as fit-is
-use Rattle.cells.specs.declared.Level.{Level}
-use Rattle.bands.specs.Bands.{listFit, bandFit, fitPair}
+use Rattle.bands.specs.Bands.{listFit, bandFit, levelAt, fitPair}
 use Rattle.bands.specs.declared.BandFit.{BandFit}
 use Rattle.bands.specs.declared.BandFit.the-variants as pair-is
 
@@ -60,37 +61,34 @@ module _ (count dx dy thresholds k : ℕ) where
       by fit-is.Fits false false ef ea eb z = absurd (let w : fit-is.Refused NoPair ≡ fit-is.Fits = rw (ea, eb) at z in let o : _≡_ {A = ℕ} 0 1 = cc in omega arith)
 
 -- what is known of the levels that a band is drawn between, and of a refusal
-module _ (count dx dy k : ℕ) (thresholds : List Float) where
+module _ (count dx dy k : ℕ) (thresholds : List Float) (rule : Rule) where
   abbrev fit : GridFit
   fit = bandFit count dx dy (length thresholds) k
 
   pub record Paired (lower upper : Level) : Type 0 where
     pub fits : bandFit count dx dy (length thresholds) k ≡ fit-is.Fits
     pub grid : gridFit count dx dy ≡ fit-is.Fits
-    pub lower-is : lower .threshold ≡ getD thresholds k nan
-    pub upper-is : upper .threshold ≡ getD thresholds (suc k) nan
+    pub lower-is : lower ≡ levelAt thresholds rule k
+    pub upper-is : upper ≡ levelAt thresholds rule (suc k)
 
-  pub paired : (answer : BandFit) (lower upper : Level) → answer ≡ pair-is.Fits lower upper → answer ≡ fitPair (bandFit count dx dy (length thresholds) k) thresholds k → Paired lower upper
+  pub paired : (answer : BandFit) (lower upper : Level) → answer ≡ pair-is.Fits lower upper → answer ≡ fitPair (bandFit count dx dy (length thresholds) k) thresholds rule k → Paired lower upper
   unfolding fitPair
   paired answer lower upper e f = by fit refl (sym e ∙ f)
     where
-      by : (v : GridFit) → fit ≡ v → pair-is.Fits lower upper ≡ fitPair v thresholds k → Paired lower upper
+      by : (v : GridFit) → fit ≡ v → pair-is.Fits lower upper ≡ fitPair v thresholds rule k → Paired lower upper
       by (fit-is.Refused why) g z = absurd (let o : _≡_ {A = ℕ} 0 1 = cc in omega arith)
-      by fit-is.Fits g z =
-          let low : lower ≡ record { threshold = getD thresholds k nan } = cc in
-          let high : upper ≡ record { threshold = getD thresholds (suc k) nan } = cc in
-          record {
-            fits = g;
-            grid = fitting count dx dy (length thresholds) k g .grid;
-            lower-is = ap (λ (l : Level). l .threshold) low;
-            upper-is = ap (λ (l : Level). l .threshold) high;
-          }
+      by fit-is.Fits g z = record {
+        fits = g;
+        grid = fitting count dx dy (length thresholds) k g .grid;
+        lower-is = cc;
+        upper-is = cc;
+      }
 
-  pub pair-refused : (answer : BandFit) (why : Refusal) → answer ≡ pair-is.Refused why → answer ≡ fitPair (bandFit count dx dy (length thresholds) k) thresholds k
+  pub pair-refused : (answer : BandFit) (why : Refusal) → answer ≡ pair-is.Refused why → answer ≡ fitPair (bandFit count dx dy (length thresholds) k) thresholds rule k
       → bandFit count dx dy (length thresholds) k ≡ fit-is.Refused why
   unfolding fitPair
   pair-refused answer why e f = by fit refl (sym e ∙ f)
     where
-      by : (v : GridFit) → fit ≡ v → pair-is.Refused why ≡ fitPair v thresholds k → fit ≡ fit-is.Refused why
+      by : (v : GridFit) → fit ≡ v → pair-is.Refused why ≡ fitPair v thresholds rule k → fit ≡ fit-is.Refused why
       by (fit-is.Refused other) g z = let same : other ≡ why = cc in g ∙ ap fit-is.Refused same
       by fit-is.Fits g z = absurd (let o : _≡_ {A = ℕ} 0 1 = cc in omega arith)

@@ -9,7 +9,8 @@ use lib.ListN.{length}
 use borrow.Author.Tests.{lt-ltb, le-ltb}
 use Rattle.error.specs.declared.Refusal.{Refusal}
 use Rattle.error.specs.declared.Refusal.the-variants.{OpenShort, LinksShort}
-use Rattle.scope.specs.Terrain.{Sheet, atLeast, terrain}
+use Rattle.scope.specs.declared.Level.{Level}
+use Rattle.scope.specs.Terrain.{Sheet, aboveAt, terrain}
 use Rattle.scope.specs.Drawing.{segmentCount, peak}
 use Rattle.scope.specs.Room.{openWords, linkWords, bandOpenWords, bandLinkWords}
 use Rattle.machine.specs.Machine.{Tables, runAfter, runOver}
@@ -39,27 +40,27 @@ unfolding bandLinkWords linkWords
 link-needs s s′ = (omega arith, omega arith)
 
 -- what the band needs, once both scans' counts are known
-module _ (values : List Float) (lower upper : Float) (dx dy : ℕ) {a b : Counts} (below : a ≡ scanned (terrain (atLeast lower) values dx dy) dx dy) (above : b ≡ scanned (terrain (atLeast upper) values dx dy) dx dy) where
+module _ (values : List Float) (lower upper : Level) (dx dy : ℕ) {a b : Counts} (below : a ≡ scanned (terrain (aboveAt lower) values dx dy) dx dy) (above : b ≡ scanned (terrain (aboveAt upper) values dx dy) dx dy) where
   pub open-need : {words most : ℕ} → words ≡ openWords dx most → most ≡ max (a .peak) (b .peak)
-      → words ≡ bandOpenWords dx (peak (terrain (atLeast lower) values dx dy) dx dy) (peak (terrain (atLeast upper) values dx dy) dx dy)
+      → words ≡ bandOpenWords dx (peak (terrain (aboveAt lower) values dx dy) dx dy) (peak (terrain (aboveAt upper) values dx dy) dx dy)
   unfolding bandOpenWords scanned
   open-need e f = e ∙ ap (openWords dx) (f ∙ ap₂ (λ (m n : Counts). max (m .peak) (n .peak)) below above)
 
   pub link-need : {words most : ℕ} → words ≡ linkWords most → most ≡ max (a .segments) (b .segments)
-      → words ≡ bandLinkWords (segmentCount (terrain (atLeast lower) values dx dy) dx dy) (segmentCount (terrain (atLeast upper) values dx dy) dx dy)
+      → words ≡ bandLinkWords (segmentCount (terrain (aboveAt lower) values dx dy) dx dy) (segmentCount (terrain (aboveAt upper) values dx dy) dx dy)
   unfolding bandLinkWords scanned
   link-need e f = e ∙ ap linkWords (f ∙ ap₂ (λ (m n : Counts). max (m .segments) (n .segments)) below above)
 
 -- each of the two passes has room
-module _ (values : List Float) (lower upper : Float) (dx dy : ℕ) (lines links : List ℕ)
-    (h : bandOpenWords dx (peak (terrain (atLeast lower) values dx dy) dx dy) (peak (terrain (atLeast upper) values dx dy) dx dy) ≤ length lines)
-    (k : bandLinkWords (segmentCount (terrain (atLeast lower) values dx dy) dx dy) (segmentCount (terrain (atLeast upper) values dx dy) dx dy) ≤ length links)
+module _ (values : List Float) (lower upper : Level) (dx dy : ℕ) (lines links : List ℕ)
+    (h : bandOpenWords dx (peak (terrain (aboveAt lower) values dx dy) dx dy) (peak (terrain (aboveAt upper) values dx dy) dx dy) ≤ length lines)
+    (k : bandLinkWords (segmentCount (terrain (aboveAt lower) values dx dy) dx dy) (segmentCount (terrain (aboveAt upper) values dx dy) dx dy) ≤ length links)
     (sized : Sized (length values) dx dy) where
   abbrev lowest : Sheet
-  lowest = terrain (atLeast lower) values dx dy
+  lowest = terrain (aboveAt lower) values dx dy
 
   abbrev highest : Sheet
-  highest = terrain (atLeast upper) values dx dy
+  highest = terrain (aboveAt upper) values dx dy
 
   pub first-pass : StitchedOver lowest dx dy lines links (stitchedTables lowest dx dy lines links)
   first-pass =
@@ -72,12 +73,12 @@ module _ (values : List Float) (lower upper : Float) (dx dy : ℕ) (lines links 
       stitched-over values upper dx dy sized (stitchedTables lowest dx dy lines links .lines) (stitchedTables lowest dx dy lines links .links)
       (omega (arith, open-needs dx (peak lowest dx dy) (peak highest dx dy) .1, first-pass .lines-long)) (omega (arith, link-needs (segmentCount lowest dx dy) (segmentCount highest dx dy) .1, first-pass .links-long))
 
-module _ (values : List Float) (lower upper : Float) (dx dy : ℕ) (lines links marks : List ℕ) (marked : Marked (terrain (atLeast lower) values dx dy) (suc dy) marks) where
+module _ (values : List Float) (lower upper : Level) (dx dy : ℕ) (lines links marks : List ℕ) (marked : Marked (terrain (aboveAt lower) values dx dy) (suc dy) marks) where
   abbrev L : Sheet
-  L = terrain (atLeast lower) values dx dy
+  L = terrain (aboveAt lower) values dx dy
 
   abbrev U : Sheet
-  U = terrain (atLeast upper) values dx dy
+  U = terrain (aboveAt upper) values dx dy
 
   abbrev verdict : Verdict
   verdict = bandVerdict fit-is.Fits L U dx dy (length lines) (length links)

@@ -10,7 +10,8 @@ use lib.ListN.{length, drop}
 use borrow.Author.Tests.{ltb-false}
 use Rattle.error.specs.declared.Refusal.{Refusal}
 use Rattle.error.specs.declared.Refusal.the-variants.{OpenShort, LinksShort}
-use Rattle.scope.specs.Terrain.{Sheet, atLeast, terrain}
+use Rattle.scope.specs.declared.Level.{Level}
+use Rattle.scope.specs.Terrain.{Sheet, aboveAt, terrain}
 use Rattle.scope.specs.Drawing.{segmentCount, ringCount, peak}
 use Rattle.scope.specs.Room.{openWords, linkWords, pointCount, bandOpenWords, bandLinkWords}
 use Rattle.scope.specs.Tables.{zeroed}
@@ -47,12 +48,12 @@ pub fit-refused : (fit : GridFit) (why : Refusal) → fit ≡ fit-is.Refused why
 unfolding bandVerdict afterGrid bandReported workAfter
 fit-refused fit why e L U dx dy lines links = subst (λ (f : GridFit). ReportedOver f L U dx dy lines links (second-is.Refused why) lines links) (sym e) (record { answers = refl; lines-are = refl; links-are = refl })
 
-module _ (values : List Float) (lower upper : Float) (dx dy : ℕ) (lines links : List ℕ) where
+module _ (values : List Float) (lower upper : Level) (dx dy : ℕ) (lines links : List ℕ) where
   abbrev L : Sheet
-  L = terrain (atLeast lower) values dx dy
+  L = terrain (aboveAt lower) values dx dy
 
   abbrev U : Sheet
-  U = terrain (atLeast upper) values dx dy
+  U = terrain (aboveAt upper) values dx dy
 
   abbrev verdict : Verdict
   verdict = bandVerdict fit-is.Fits L U dx dy (length lines) (length links)
@@ -61,13 +62,13 @@ module _ (values : List Float) (lower upper : Float) (dx dy : ℕ) (lines links 
   last = afterUpper L U dx dy lines links
 
   pub record BandDone (drawing : BandDrawing) (lines′ links′ : List ℕ) : Type 0 where
-    pub is-passes : bandVerdict fit-is.Fits (terrain (atLeast lower) values dx dy) (terrain (atLeast upper) values dx dy) dx dy (length lines) (length links) ≡ passes
-    pub is-drawing : drawing ≡ bandDrawing (terrain (atLeast lower) values dx dy) (terrain (atLeast upper) values dx dy) dx dy
-        (afterUpper (terrain (atLeast lower) values dx dy) (terrain (atLeast upper) values dx dy) dx dy lines links)
-    pub lines-are : lines′ ≡ afterUpper (terrain (atLeast lower) values dx dy) (terrain (atLeast upper) values dx dy) dx dy lines links .lines
-    pub links-are : links′ ≡ afterUpper (terrain (atLeast lower) values dx dy) (terrain (atLeast upper) values dx dy) dx dy lines links .links
-    pub lines-fit : bandOpenWords dx (peak (terrain (atLeast lower) values dx dy) dx dy) (peak (terrain (atLeast upper) values dx dy) dx dy) ≤ length lines
-    pub links-fit : bandLinkWords (segmentCount (terrain (atLeast lower) values dx dy) dx dy) (segmentCount (terrain (atLeast upper) values dx dy) dx dy) ≤ length links
+    pub is-passes : bandVerdict fit-is.Fits (terrain (aboveAt lower) values dx dy) (terrain (aboveAt upper) values dx dy) dx dy (length lines) (length links) ≡ passes
+    pub is-drawing : drawing ≡ bandDrawing (terrain (aboveAt lower) values dx dy) (terrain (aboveAt upper) values dx dy) dx dy
+        (afterUpper (terrain (aboveAt lower) values dx dy) (terrain (aboveAt upper) values dx dy) dx dy lines links)
+    pub lines-are : lines′ ≡ afterUpper (terrain (aboveAt lower) values dx dy) (terrain (aboveAt upper) values dx dy) dx dy lines links .lines
+    pub links-are : links′ ≡ afterUpper (terrain (aboveAt lower) values dx dy) (terrain (aboveAt upper) values dx dy) dx dy lines links .links
+    pub lines-fit : bandOpenWords dx (peak (terrain (aboveAt lower) values dx dy) dx dy) (peak (terrain (aboveAt upper) values dx dy) dx dy) ≤ length lines
+    pub links-fit : bandLinkWords (segmentCount (terrain (aboveAt lower) values dx dy) dx dy) (segmentCount (terrain (aboveAt upper) values dx dy) dx dy) ≤ length links
 
   pub band-done : (answer : BandPass) (drawing : BandDrawing) → answer ≡ pass-is.Done drawing → (lines′ links′ marks′ : List ℕ) → BandPassed values lower upper dx dy lines links answer lines′ links′ marks′
       → BandDone drawing lines′ links′

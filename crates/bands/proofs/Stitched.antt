@@ -7,8 +7,9 @@ use native.Mathlib.Omega.{arith}
 use lib.Ieee.{Float}
 use lib.ListN.{length, drop, length-drop}
 use lib.Seq.{drop-drop}
+use Rattle.scope.specs.declared.Level.{Level}
 use Rattle.scope.specs.Limits.{sideLimit}
-use Rattle.scope.specs.Terrain.{Sheet, atLeast, terrain}
+use Rattle.scope.specs.Terrain.{Sheet, aboveAt, terrain}
 use Rattle.scope.specs.Drawing.{segmentsOf, segmentCount, ringCount, ringsOf, peak}
 use Rattle.scope.specs.Room.{openWords, linkWords}
 use Rattle.scope.specs.Tables.{packedPoints, bareRecords}
@@ -39,25 +40,25 @@ pub record StitchedOver (A : Sheet) (dx dy : ℕ) (lines links : List ℕ) (t : 
   pub points-are : walkPoints dx (t .links) (t .progress .head) (t .progress .head) (segmentCount A dx dy) ≡ packedPoints (ringsOf A dx dy)
   pub records-are : walkRecords (t .links) 0 0 (t .progress .head) (segmentCount A dx dy) ≡ bareRecords 0 0 (ringsOf A dx dy)
 
-module _ (values : List Float) (threshold : Float) (dx dy : ℕ) (sized : Sized (length values) dx dy) where
+module _ (values : List Float) (level : Level) (dx dy : ℕ) (sized : Sized (length values) dx dy) where
   abbrev A : Sheet
-  A = terrain (atLeast threshold) values dx dy
+  A = terrain (aboveAt level) values dx dy
 
-  pub few-segments : segmentCount (terrain (atLeast threshold) values dx dy) dx dy ≤ 2 ^ 26
+  pub few-segments : segmentCount (terrain (aboveAt level) values dx dy) dx dy ≤ 2 ^ 26
   unfolding segmentCount segmentsOf sideLimit
-  few-segments = omega (arith, segments-are-few A (outside values threshold dx dy sized) sideLimit dy (suc dx) (sized .columns) (sized .rows) (omega arith))
+  few-segments = omega (arith, segments-are-few A (outside values level dx dy sized) sideLimit dy (suc dx) (sized .columns) (sized .rows) (omega arith))
 
-  pub few-rings : ringCount (terrain (atLeast threshold) values dx dy) dx dy ≤ segmentCount (terrain (atLeast threshold) values dx dy) dx dy
+  pub few-rings : ringCount (terrain (aboveAt level) values dx dy) dx dy ≤ segmentCount (terrain (aboveAt level) values dx dy) dx dy
   unfolding segmentCount segmentsOf ringCount ringsOf
-  few-rings = rings-are-no-more A (outside values threshold dx dy sized) dy (suc dx)
+  few-rings = rings-are-no-more A (outside values level dx dy sized) dy (suc dx)
 
-  pub stitched-over : (lines links : List ℕ) → openWords dx (peak (terrain (atLeast threshold) values dx dy) dx dy) ≤ length lines → linkWords (segmentCount (terrain (atLeast threshold) values dx dy) dx dy) ≤ length links
-      → StitchedOver (terrain (atLeast threshold) values dx dy) dx dy lines links (stitchedTables (terrain (atLeast threshold) values dx dy) dx dy lines links)
+  pub stitched-over : (lines links : List ℕ) → openWords dx (peak (terrain (aboveAt level) values dx dy) dx dy) ≤ length lines → linkWords (segmentCount (terrain (aboveAt level) values dx dy) dx dy) ≤ length links
+      → StitchedOver (terrain (aboveAt level) values dx dy) dx dy lines links (stitchedTables (terrain (aboveAt level) values dx dy) dx dy lines links)
   unfolding stitchedTables
   stitched-over lines links hl hk =
-      let out = outside values threshold dx dy sized in
-      let few = segments-fit values threshold dx dy sized in
-      let low = peak-fits values threshold dx dy sized in
+      let out = outside values level dx dy sized in
+      let few = segments-fit values level dx dy sized in
+      let low = peak-fits values level dx dy sized in
       let kept-lines = lines-kept A out lines links hl hk few low in
       let kept-links = links-kept A out lines links hl hk few low in
       record {
@@ -66,6 +67,6 @@ module _ (values : List Float) (threshold : Float) (dx dy : ℕ) (sized : Sized 
         lines-past = λ m h. past (openWords dx (peak A dx dy)) m lines _ h (kept-lines .1);
         links-past = λ m h. past (linkWords (segmentCount A dx dy)) m links _ h (kept-links .1);
         rings-are = rings-found A out lines links hl hk few low;
-        points-are = points-found A out lines links hl hk few low (columns-fit values threshold dx dy sized) (rows-fit values threshold dx dy sized);
-        records-are = records-found A out lines links hl hk few low (points-fit values threshold dx dy sized);
+        points-are = points-found A out lines links hl hk few low (columns-fit values level dx dy sized) (rows-fit values level dx dy sized);
+        records-are = records-found A out lines links hl hk few low (points-fit values level dx dy sized);
       }

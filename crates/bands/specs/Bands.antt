@@ -1,4 +1,4 @@
--- A band's verdicts, reports, and answer and tables at exit: the band of thresholds k and k + 1 of the list. Refusals 1 to 6 change nothing; 7 and 8 spare the
+-- A band's verdicts, reports, and answer and tables at exit: the band of thresholds k and k + 1 of the list, under one rule. Refusals 1 to 6 change nothing; 7 and 8 spare the
 -- outputs and, like success, zero the needed words of both work tables. Assumes nothing.
 use mathlib.Core.Path.{_≡_}
 use mathlib.Core.Bool.{cond}
@@ -8,7 +8,9 @@ use lib.Dec.{ltb}
 use lib.Ieee.{Float, nan}
 use lib.ListN.{length, getD}
 use Rattle.error.specs.declared.Refusal.the-variants.{FewThresholds, NoPair, OpenShort, LinksShort, PointsShort, DirectoryShort}
-use Rattle.scope.specs.Terrain.{Sheet, atLeast, terrain}
+use Rattle.scope.specs.declared.Rule.{Rule}
+use Rattle.scope.specs.declared.Level.{Level}
+use Rattle.scope.specs.Terrain.{Sheet, aboveAt, terrain}
 use Rattle.scope.specs.Drawing.{segmentCount, ringCount, ringsOf, peak}
 use Rattle.scope.specs.Room.{pointCount, bandOpenWords, bandLinkWords, bandPointWords, bandDirectoryWords}
 use Rattle.scope.specs.Tables.{bandPoints, bandRecords}
@@ -36,17 +38,21 @@ listFit fit-is.Fits count k = cond (ltb count 2) (fit-is.Refused FewThresholds) 
 unfoldable pub bandFit : ℕ → ℕ → ℕ → ℕ → ℕ → GridFit
 bandFit count dx dy thresholds k = listFit (gridFit count dx dy) thresholds k
 
+-- the level of a threshold of the list, under the rule
+abbrev pub levelAt : List Float → Rule → ℕ → Level
+levelAt thresholds rule k = record { threshold = getD thresholds k nan; rule = rule }
+
 -- the levels of the lower threshold, k, and the upper, k + 1
-unfoldable pub fitPair : GridFit → List Float → ℕ → BandFit
-fitPair (fit-is.Refused why) thresholds k = pair-is.Refused why
-fitPair fit-is.Fits thresholds k = pair-is.Fits (record { threshold = getD thresholds k nan }) (record { threshold = getD thresholds (suc k) nan })
+unfoldable pub fitPair : GridFit → List Float → Rule → ℕ → BandFit
+fitPair (fit-is.Refused why) thresholds rule k = pair-is.Refused why
+fitPair fit-is.Fits thresholds rule k = pair-is.Fits (levelAt thresholds rule k) (levelAt thresholds rule (suc k))
 
 -- and their sheets
-abbrev pub lowerSheet : List Float → List Float → ℕ → ℕ → ℕ → Sheet
-lowerSheet values thresholds k dx dy = terrain (atLeast (getD thresholds k nan)) values dx dy
+abbrev pub lowerSheet : List Float → List Float → Rule → ℕ → ℕ → ℕ → Sheet
+lowerSheet values thresholds rule k dx dy = terrain (aboveAt (levelAt thresholds rule k)) values dx dy
 
-abbrev pub upperSheet : List Float → List Float → ℕ → ℕ → ℕ → Sheet
-upperSheet values thresholds k dx dy = terrain (atLeast (getD thresholds (suc k) nan)) values dx dy
+abbrev pub upperSheet : List Float → List Float → Rule → ℕ → ℕ → ℕ → Sheet
+upperSheet values thresholds rule k dx dy = terrain (aboveAt (levelAt thresholds rule (suc k))) values dx dy
 
 -- numbers 5 and 6 too, of a band between two sheets
 unfoldable pub bandVerdict : GridFit → Sheet → Sheet → ℕ → ℕ → ℕ → ℕ → Verdict
@@ -68,9 +74,9 @@ bandOutputs L U dx dy points directory = bandRoom (segmentCount L dx dy) (ringCo
 unfoldable pub bandRoomOf : Sheet → Sheet → ℕ → ℕ → FirstReport
 bandRoomOf L U dx dy = first-is.Room (max (segmentCount L dx dy) (segmentCount U dx dy)) (max (peak L dx dy) (peak U dx dy))
 
-unfoldable pub bandFirstReport : List Float → List Float → ℕ → ℕ → ℕ → FirstReport
-bandFirstReport values thresholds k dx dy =
-    reportFor (bandFit (length values) dx dy (length thresholds) k) (bandRoomOf (lowerSheet values thresholds k dx dy) (upperSheet values thresholds k dx dy) dx dy)
+unfoldable pub bandFirstReport : List Float → List Float → Rule → ℕ → ℕ → ℕ → FirstReport
+bandFirstReport values thresholds rule k dx dy =
+    reportFor (bandFit (length values) dx dy (length thresholds) k) (bandRoomOf (lowerSheet values thresholds rule k dx dy) (upperSheet values thresholds rule k dx dy) dx dy)
 
 -- the second report: the larger S, the sum of R, the larger H, and the sum of the points
 unfoldable pub bandReported : Verdict → Sheet → Sheet → ℕ → ℕ → SecondReport
@@ -101,11 +107,11 @@ pub record BuiltOver (fit : GridFit) (L U : Sheet) (dx dy : ℕ) (lines links po
   pub directory-is : directory′ ≡ outputAfter (bandVerdict fit L U dx dy (length lines) (length links)) (bandOutputs L U dx dy (length points) (length directory))
       (bandRecords (ringsOf L dx dy) (ringsOf U dx dy)) directory
 
--- both on every input: a list of thresholds, and k
-abbrev pub BandReported : List Float → List Float → ℕ → ℕ → ℕ → List ℕ → List ℕ → SecondReport → List ℕ → List ℕ → Type 0
-BandReported values thresholds k dx dy =
-    ReportedOver (bandFit (length values) dx dy (length thresholds) k) (lowerSheet values thresholds k dx dy) (upperSheet values thresholds k dx dy) dx dy
+-- both on every input: a list of thresholds, the rule for all of them, and k
+abbrev pub BandReported : List Float → List Float → Rule → ℕ → ℕ → ℕ → List ℕ → List ℕ → SecondReport → List ℕ → List ℕ → Type 0
+BandReported values thresholds rule k dx dy =
+    ReportedOver (bandFit (length values) dx dy (length thresholds) k) (lowerSheet values thresholds rule k dx dy) (upperSheet values thresholds rule k dx dy) dx dy
 
-abbrev pub BandBuilt : List Float → List Float → ℕ → ℕ → ℕ → List ℕ → List ℕ → List ℕ → List ℕ → Built → List ℕ → List ℕ → List ℕ → List ℕ → Type 0
-BandBuilt values thresholds k dx dy =
-    BuiltOver (bandFit (length values) dx dy (length thresholds) k) (lowerSheet values thresholds k dx dy) (upperSheet values thresholds k dx dy) dx dy
+abbrev pub BandBuilt : List Float → List Float → Rule → ℕ → ℕ → ℕ → List ℕ → List ℕ → List ℕ → List ℕ → Built → List ℕ → List ℕ → List ℕ → List ℕ → Type 0
+BandBuilt values thresholds rule k dx dy =
+    BuiltOver (bandFit (length values) dx dy (length thresholds) k) (lowerSheet values thresholds rule k dx dy) (upperSheet values thresholds rule k dx dy) dx dy

@@ -6,7 +6,8 @@ use Prim.Native.Nat.{ℕ, suc, _+_, max}
 use lib.Ieee.{Float}
 use lib.ListN.{length, take, drop}
 use lib.Seq.{sets}
-use Rattle.scope.specs.Terrain.{Sheet, atLeast, terrain}
+use Rattle.scope.specs.declared.Level.{Level}
+use Rattle.scope.specs.Terrain.{Sheet, aboveAt, terrain}
 use Rattle.scope.specs.Drawing.{segmentCount, ringCount, peak}
 use Rattle.scope.specs.Room.{pointWords, directoryWords}
 use Rattle.machine.specs.Machine.{Tables}
@@ -43,14 +44,14 @@ unfoldable pub bandPassed : Verdict → Sheet → Sheet → ℕ → ℕ → Tabl
 bandPassed (refused why) L U dx dy t = pass-is.Refused why
 bandPassed passes L U dx dy t = pass-is.Done (bandDrawing L U dx dy t)
 
-pub record BandPassed (values : List Float) (lower upper : Float) (dx dy : ℕ) (lines links : List ℕ) (answer : BandPass) (lines′ links′ marks′ : List ℕ) : Type 0 where
-  pub answers : answer ≡ bandPassed (bandVerdict fit-is.Fits (terrain (atLeast lower) values dx dy) (terrain (atLeast upper) values dx dy) dx dy (length lines) (length links))
-      (terrain (atLeast lower) values dx dy) (terrain (atLeast upper) values dx dy) dx dy (afterUpper (terrain (atLeast lower) values dx dy) (terrain (atLeast upper) values dx dy) dx dy lines links)
-  pub lines-are : lines′ ≡ passTable (bandVerdict fit-is.Fits (terrain (atLeast lower) values dx dy) (terrain (atLeast upper) values dx dy) dx dy (length lines) (length links))
-      lines (afterUpper (terrain (atLeast lower) values dx dy) (terrain (atLeast upper) values dx dy) dx dy lines links .lines)
-  pub links-are : links′ ≡ passTable (bandVerdict fit-is.Fits (terrain (atLeast lower) values dx dy) (terrain (atLeast upper) values dx dy) dx dy (length lines) (length links))
-      links (afterUpper (terrain (atLeast lower) values dx dy) (terrain (atLeast upper) values dx dy) dx dy lines links .links)
-  pub lower-marked : Marked (terrain (atLeast lower) values dx dy) (suc dy) marks′
+pub record BandPassed (values : List Float) (lower upper : Level) (dx dy : ℕ) (lines links : List ℕ) (answer : BandPass) (lines′ links′ marks′ : List ℕ) : Type 0 where
+  pub answers : answer ≡ bandPassed (bandVerdict fit-is.Fits (terrain (aboveAt lower) values dx dy) (terrain (aboveAt upper) values dx dy) dx dy (length lines) (length links))
+      (terrain (aboveAt lower) values dx dy) (terrain (aboveAt upper) values dx dy) dx dy (afterUpper (terrain (aboveAt lower) values dx dy) (terrain (aboveAt upper) values dx dy) dx dy lines links)
+  pub lines-are : lines′ ≡ passTable (bandVerdict fit-is.Fits (terrain (aboveAt lower) values dx dy) (terrain (aboveAt upper) values dx dy) dx dy (length lines) (length links))
+      lines (afterUpper (terrain (aboveAt lower) values dx dy) (terrain (aboveAt upper) values dx dy) dx dy lines links .lines)
+  pub links-are : links′ ≡ passTable (bandVerdict fit-is.Fits (terrain (aboveAt lower) values dx dy) (terrain (aboveAt upper) values dx dy) dx dy (length lines) (length links))
+      links (afterUpper (terrain (aboveAt lower) values dx dy) (terrain (aboveAt upper) values dx dy) dx dy lines links .links)
+  pub lower-marked : Marked (terrain (aboveAt lower) values dx dy) (suc dy) marks′
 
 -- words stored from a place on
 unfoldable pub storedFrom : ℕ → List ℕ → List ℕ → List ℕ

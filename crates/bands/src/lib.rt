@@ -1,5 +1,4 @@
 // A band of two thresholds: which refusals come before any room is asked for, both reports, and the stitching passes and the packing that isobands is built on.
-use cells::Level;
 use error::Refusal;
 use grid::GridFit;
 use grid::grid_fit;
@@ -15,12 +14,14 @@ use scan::Counts;
 use scan::FirstReport;
 use scan::TILES;
 use scan::scan;
+use scope::Level;
+use scope::Rule;
 use stitching::stitch;
 ghost use mathlib.Core.Path.{_≡_};
 ghost use Prim.Native.Nat.{suc, max, _+_, _^_, _≤_, _<_};
 ghost use lib.Dec.{ltb};
 ghost use lib.ListN.{length};
-ghost use Rattle.scope.specs.Terrain.{atLeast, terrain};
+ghost use Rattle.scope.specs.Terrain.{aboveAt, terrain};
 ghost use Rattle.scope.specs.Room.{bandPointWords};
 ghost use Rattle.machine.specs.Walk.{walkPoints, walkRecords};
 ghost use Rattle.grid.specs.Grid.{gridFit, Sized};
@@ -79,18 +80,27 @@ fn band_fit(count: usize, dx: usize, dy: usize, thresholds: usize, k: usize) -> 
     }
 }
 
-// The levels of the thresholds k and k + 1, where a band can be drawn. Else the lowest refusal that applies.
-pub fn band_pair(count: usize, dx: usize, dy: usize, thresholds: &[f64], k: usize) -> BandFit
-    ensures { λ r. ⌜ r ≡ fitPair (bandFit count dx dy (length (now (thresholds .entry))) k) (now (thresholds .entry)) k ⌝ }
+// The levels of the thresholds k and k + 1 under a rule, where a band can be drawn. Else the lowest refusal that applies.
+pub fn band_pair(
+    count: usize,
+    dx: usize,
+    dy: usize,
+    thresholds: &[f64],
+    rule: Rule,
+    k: usize,
+) -> BandFit
+    ensures { λ r. ⌜ r ≡ fitPair (bandFit count dx dy (length (now (thresholds .entry))) k) (now (thresholds .entry)) rule k ⌝ }
 {
     match band_fit(count, dx, dy, thresholds.len(), k) {
         GridFit::Refused(refusal) => BandFit::Refused(refusal),
         GridFit::Fits => {
             let below = Level {
                 threshold: thresholds[k],
+                rule,
             };
             let above = Level {
                 threshold: thresholds[k + 1],
+                rule,
             };
             BandFit::Fits(below, above)
         }
@@ -107,7 +117,7 @@ pub fn larger(a: u32, b: u32) -> u32
 // The counts of a grid that fits at one level.
 fn counts_of(values: &[f64], level: Level, dx: usize, dy: usize) -> Counts
     requires { ⌜ gridFit (length (now values)) dx dy ≡ GridFit.Fits ⌝ }
-    ensures { λ r. ⌜ r ≡ scanned (terrain (atLeast (level .threshold)) (now (values .entry)) dx dy) dx dy ⌝ }
+    ensures { λ r. ⌜ r ≡ scanned (terrain (aboveAt level) (now (values .entry)) dx dy) dx dy ⌝ }
 {
     let mut marks = [0u8; TILES];
     scan(values, level, dx, dy, &mut marks)
@@ -116,7 +126,7 @@ fn counts_of(values: &[f64], level: Level, dx: usize, dy: usize) -> Counts
 // The larger segment count and the larger peak of two levels, for a grid that fits.
 fn room_of(values: &[f64], lower: Level, upper: Level, dx: usize, dy: usize) -> FirstReport
     requires { ⌜ gridFit (length (now values)) dx dy ≡ GridFit.Fits ⌝ }
-    ensures { λ r. ⌜ r ≡ bandRoomOf (terrain (atLeast (lower .threshold)) (now (values .entry)) dx dy) (terrain (atLeast (upper .threshold)) (now (values .entry)) dx dy) dx dy ⌝ }
+    ensures { λ r. ⌜ r ≡ bandRoomOf (terrain (aboveAt lower) (now (values .entry)) dx dy) (terrain (aboveAt upper) (now (values .entry)) dx dy) dx dy ⌝ }
 {
     let below = counts_of(values, lower, dx, dy);
     let above = counts_of(values, upper, dx, dy);
@@ -125,17 +135,18 @@ fn room_of(values: &[f64], lower: Level, upper: Level, dx: usize, dy: usize) -> 
     FirstReport::Room { segments, peak }
 }
 
-// The larger segment count and the larger peak of the thresholds k and k + 1 of a list, or the lowest refusal that applies, alone.
+// The larger segment count and the larger peak of the thresholds k and k + 1 of a list under a rule, or the lowest refusal that applies, alone.
 pub fn band_first_report(
     values: &[f64],
     thresholds: &[f64],
+    rule: Rule,
     k: usize,
     dx: usize,
     dy: usize,
 ) -> FirstReport
-    ensures { λ r. ⌜ r ≡ bandFirstReport (now (values .entry)) (now (thresholds .entry)) k dx dy ⌝ }
+    ensures { λ r. ⌜ r ≡ bandFirstReport (now (values .entry)) (now (thresholds .entry)) rule k dx dy ⌝ }
 {
-    match band_pair(values.len(), dx, dy, thresholds, k) {
+    match band_pair(values.len(), dx, dy, thresholds, rule, k) {
         BandFit::Refused(refusal) => FirstReport::Refused(refusal),
         BandFit::Fits(lower, upper) => room_of(values, lower, upper, dx, dy),
     }
@@ -154,7 +165,7 @@ pub fn band_pass(
     links: &mut [u32],
 ) -> BandPass
     requires { ⌜ (gridFit (length (now values)) dx dy ≡ GridFit.Fits) × (length (now marks) ≡ 4096) ⌝ }
-    ensures { λ r. ⌜ BandPassed (now (values .entry)) (lower .threshold) (upper .threshold) dx dy (now (lines .entry)) (now (links .entry)) r
+    ensures { λ r. ⌜ BandPassed (now (values .entry)) lower upper dx dy (now (lines .entry)) (now (links .entry)) r
         (now (lines .exit)) (now (links .exit)) (now (marks .exit)) ⌝ }
 {
     let mut upper_marks = [0u8; TILES];
@@ -195,7 +206,7 @@ fn report_over(
     links: &mut [u32],
 ) -> SecondReport
     requires { ⌜ gridFit (length (now values)) dx dy ≡ GridFit.Fits ⌝ }
-    ensures { λ r. ⌜ ReportedOver GridFit.Fits (terrain (atLeast (lower .threshold)) (now (values .entry)) dx dy) (terrain (atLeast (upper .threshold)) (now (values .entry)) dx dy) dx dy
+    ensures { λ r. ⌜ ReportedOver GridFit.Fits (terrain (aboveAt lower) (now (values .entry)) dx dy) (terrain (aboveAt upper) (now (values .entry)) dx dy) dx dy
         (now (lines .entry)) (now (links .entry)) r (now (lines .exit)) (now (links .exit)) ⌝ }
 {
     let mut marks = [0u8; TILES];
@@ -218,20 +229,21 @@ fn report_over(
     }
 }
 
-// All room for the band of the thresholds k and k + 1 of a list: the larger segment count and peak, and the sums of rings and points. On success the needed
+// All room for the band of the thresholds k and k + 1 of a list under a rule: the larger segment count and peak, and the sums of rings and points. On success the needed
 // words of both work tables are zero; a refusal changes nothing.
 pub fn band_second_report(
     values: &[f64],
     thresholds: &[f64],
+    rule: Rule,
     k: usize,
     dx: usize,
     dy: usize,
     lines: &mut [u32],
     links: &mut [u32],
 ) -> SecondReport
-    ensures { λ r. ⌜ BandReported (now (values .entry)) (now (thresholds .entry)) k dx dy (now (lines .entry)) (now (links .entry)) r (now (lines .exit)) (now (links .exit)) ⌝ }
+    ensures { λ r. ⌜ BandReported (now (values .entry)) (now (thresholds .entry)) rule k dx dy (now (lines .entry)) (now (links .entry)) r (now (lines .exit)) (now (links .exit)) ⌝ }
 {
-    match band_pair(values.len(), dx, dy, thresholds, k) {
+    match band_pair(values.len(), dx, dy, thresholds, rule, k) {
         BandFit::Refused(refusal) => SecondReport::Refused(refusal),
         BandFit::Fits(lower, upper) => report_over(values, lower, upper, dx, dy, lines, links),
     }
@@ -284,9 +296,9 @@ pub fn band_pack(
     points: &mut [u16],
     directory: &mut [u32],
 ) -> Built
-    requires { ⌜ Sized (length (now values)) dx dy × Marked (terrain (atLeast (lower .threshold)) (now values) dx dy) (suc dy) (now marks)
+    requires { ⌜ Sized (length (now values)) dx dy × Marked (terrain (aboveAt lower) (now values) dx dy) (suc dy) (now marks)
         × (drawing .«lower_rings» + drawing .«upper_rings» < 2 ^ 32) ⌝ }
-    ensures { λ r. ⌜ BandPacked (terrain (atLeast (lower .threshold)) (now (values .entry)) dx dy) dx dy drawing (now (lines .entry)) (now (links .entry)) (now (points .entry)) (now (directory .entry)) r
+    ensures { λ r. ⌜ BandPacked (terrain (aboveAt lower) (now (values .entry)) dx dy) dx dy drawing (now (lines .entry)) (now (links .entry)) (now (points .entry)) (now (directory .entry)) r
         (now (lines .exit)) (now (links .exit)) (now (points .exit)) (now (directory .exit)) ⌝ }
 {
     let lower_segments = drawing.lower_segments;

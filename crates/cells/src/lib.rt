@@ -1,21 +1,52 @@
 // The cells of a grid: the sample test, the cell number, the case table, the change that a cell makes, and the index of a point.
+use scope::Level;
+use scope::Rule;
 ghost use mathlib.Core.Path.{_≡_};
 ghost use Prim.Native.Nat.{_+_, _*_, _^_, _≤_, _<_};
 ghost use lib.ListN.{length};
-ghost use Rattle.scope.specs.Terrain.{atLeast};
+ghost use Rattle.scope.specs.Terrain.{aboveAt};
 ghost use Rattle.scope.specs.Cells.{when, numberOf, drawn, opened, closed, pointIndex, indexedPoint};
 ghost use Rattle.cells.specs.Sides.{numbered, strokeAt};
+ghost use Rattle.cells.specs.Rules.{ruleOf, levelOf, ruleNumber};
 
-// What decides whether a sample is above.
-pub struct Level {
-    pub threshold: f64,
+// Whether a sample is above: its value is at least the threshold, or more than it, as the rule says. Where either is not a number it is not above.
+pub fn above(level: Level, value: f64) -> bool
+    ensures { λ r. ⌜ r ≡ aboveAt level value ⌝ }
+{
+    let rule = level.rule;
+    match rule {
+        Rule::AtLeast => value >= level.threshold,
+        Rule::MoreThan => value > level.threshold,
+    }
 }
 
-// Whether a sample is above: its value is at least the threshold. Where either is not a number it is not above.
-pub fn above(level: Level, value: f64) -> bool
-    ensures { λ r. ⌜ r ≡ atLeast (level .threshold) value ⌝ }
+// The rule of a number, for a caller who is lent no enum: 0 is at least, and any other number is more than.
+pub fn rule_of(number: u32) -> Rule
+    ensures { λ r. ⌜ r ≡ ruleOf number ⌝ }
 {
-    value >= level.threshold
+    if number == 0 {
+        Rule::AtLeast
+    } else {
+        Rule::MoreThan
+    }
+}
+
+// The level of a threshold and a rule's number.
+pub fn level_of(threshold: f64, number: u32) -> Level
+    ensures { λ r. ⌜ r ≡ levelOf threshold number ⌝ }
+{
+    let rule = rule_of(number);
+    Level { threshold, rule }
+}
+
+// The number of a rule.
+pub fn rule_number(rule: Rule) -> u32
+    ensures { λ r. ⌜ r ≡ ruleNumber rule ⌝ }
+{
+    match rule {
+        Rule::AtLeast => 0,
+        Rule::MoreThan => 1,
+    }
 }
 
 // What a sample adds to the cell number: `weight` where it is above, else 0.

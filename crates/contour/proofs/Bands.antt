@@ -5,10 +5,11 @@ use mathlib.Core.Logic.{_↔_}
 use mathlib.Core.List.{List}
 use Prim.Native.Nat.{ℕ, suc, max, _+_}
 use native.Mathlib.Omega.{arith}
-use lib.Ieee.{Float, nan}
-use lib.ListN.{length, getD, length-append}
+use lib.Ieee.{Float}
+use lib.ListN.{length, length-append}
+use Rattle.scope.specs.declared.Rule.{Rule}
 use Rattle.scope.specs.Limits.{recordStride}
-use Rattle.scope.specs.Terrain.{Sheet, atLeast}
+use Rattle.scope.specs.Terrain.{Sheet, aboveAt}
 use Rattle.scope.specs.Drawing.{segmentCount, ringCount, ringsOf, peak}
 use Rattle.scope.specs.Room.{pointCount, directoryWords, bandOpenWords, bandLinkWords, bandPointWords, bandDirectoryWords}
 use Rattle.scope.specs.Tables.{packedPoints, bandPoints, bandRecords}
@@ -23,7 +24,7 @@ use Rattle.isoringbuilder.specs.declared.SecondReport.{SecondReport}
 use Rattle.isoringbuilder.specs.declared.SecondReport.the-variants as second-is
 use Rattle.isoringbuilder.specs.declared.Built.{Built}
 use Rattle.isoringbuilder.specs.declared.Built.the-variants as built-is
-use Rattle.bands.specs.Bands.{bandFit, lowerSheet, upperSheet, bandVerdict, bandRoom, bandOutputs, bandRoomOf, bandFirstReport, bandReported, bandBuilt, ReportedOver, BuiltOver, BandReported, BandBuilt}
+use Rattle.bands.specs.Bands.{levelAt, bandFit, lowerSheet, upperSheet, bandVerdict, bandRoom, bandOutputs, bandRoomOf, bandFirstReport, bandReported, bandBuilt, ReportedOver, BuiltOver, BandReported, BandBuilt}
 use Rattle.contourbuilder.proofs.Lengths.{packed-both, band-length}
 use Rattle.contour.proofs.Lowest.{by-one, by-two, ReportExact}
 use Rattle.contour.proofs.Results.{Worked, Plan, Constructed, one-worked, one-construction, Exact, worked-exact, constructed-exact, JustRoom, Filled, fills}
@@ -92,18 +93,18 @@ records-fill : (L U : Sheet) (dx dy : ℕ) → length (bandRecords (ringsOf L dx
 unfolding bandDirectoryWords directoryWords recordStride ringCount
 records-fill L U dx dy = band-length (ringsOf L dx dy) (ringsOf U dx dy)
 
--- ---- 2. a list of thresholds, and k
+-- ---- 2. a list of thresholds, the rule, and k
 
-abbrev pub bandPlan : List Float → List Float → ℕ → ℕ → ℕ → Plan ℕ
-bandPlan values thresholds k dx dy = planOver (bandFit (length values) dx dy (length thresholds) k) (lowerSheet values thresholds k dx dy) (upperSheet values thresholds k dx dy) dx dy
+abbrev pub bandPlan : List Float → List Float → Rule → ℕ → ℕ → ℕ → Plan ℕ
+bandPlan values thresholds rule k dx dy = planOver (bandFit (length values) dx dy (length thresholds) k) (lowerSheet values thresholds rule k dx dy) (upperSheet values thresholds rule k dx dy) dx dy
 
-abbrev pub bandRoomAt : List Float → List Float → ℕ → ℕ → ℕ → SecondReport
-bandRoomAt values thresholds k dx dy = roomOver (lowerSheet values thresholds k dx dy) (upperSheet values thresholds k dx dy) dx dy
+abbrev pub bandRoomAt : List Float → List Float → Rule → ℕ → ℕ → ℕ → SecondReport
+bandRoomAt values thresholds rule k dx dy = roomOver (lowerSheet values thresholds rule k dx dy) (upperSheet values thresholds rule k dx dy) dx dy
 
-module _ (values thresholds : List Float) (k dx dy : ℕ) where
+module _ (values thresholds : List Float) (rule : Rule) (k dx dy : ℕ) where
   -- numbers 1 to 4 in a band's first report, and its room exactly where the band fits
-  pub band-first-report-exactly : FitExact first-is.Refused (bandFirstReport values thresholds k dx dy) (length values) dx dy (length thresholds) k
-      × ((bandFit (length values) dx dy (length thresholds) k ≡ fit-is.Fits) ↔ (bandFirstReport values thresholds k dx dy ≡ bandRoomOf (lowerSheet values thresholds k dx dy) (upperSheet values thresholds k dx dy) dx dy))
+  pub band-first-report-exactly : FitExact first-is.Refused (bandFirstReport values thresholds rule k dx dy) (length values) dx dy (length thresholds) k
+      × ((bandFit (length values) dx dy (length thresholds) k ≡ fit-is.Fits) ↔ (bandFirstReport values thresholds rule k dx dy ≡ bandRoomOf (lowerSheet values thresholds rule k dx dy) (upperSheet values thresholds rule k dx dy) dx dy))
   unfolding bandFirstReport bandRoomOf
   band-first-report-exactly =
       let exactly = report-for-exactly (bandFit (length values) dx dy (length thresholds) k) _ _ in
@@ -111,35 +112,35 @@ module _ (values thresholds : List Float) (k dx dy : ℕ) where
 
   module _ (lines links : List ℕ) where
     -- two results that meet the contract of a band's second report on the same entry are equal
-    pub one-band-report : {p q : SecondReport} {pl pk ql qk : List ℕ} → BandReported values thresholds k dx dy lines links p pl pk → BandReported values thresholds k dx dy lines links q ql qk → (p ≡ q) × (pl ≡ ql) × (pk ≡ qk)
+    pub one-band-report : {p q : SecondReport} {pl pk ql qk : List ℕ} → BandReported values thresholds rule k dx dy lines links p pl pk → BandReported values thresholds rule k dx dy lines links q ql qk → (p ≡ q) × (pl ≡ ql) × (pk ≡ qk)
     one-band-report a b = one-worked (report-worked a) (report-worked b)
 
     -- numbers 1 to 6 in a band's second report, and its room exactly where the band fits and neither work table is short
-    pub band-second-report-exactly : {answer : SecondReport} {lines′ links′ : List ℕ} → BandReported values thresholds k dx dy lines links answer lines′ links′
+    pub band-second-report-exactly : {answer : SecondReport} {lines′ links′ : List ℕ} → BandReported values thresholds rule k dx dy lines links answer lines′ links′
         → FitExact second-is.Refused answer (length values) dx dy (length thresholds) k
-        × ReportExact second-is.Refused (bandRoomAt values thresholds k dx dy) answer (bandPlan values thresholds k dx dy .fit) (length lines) (bandPlan values thresholds k dx dy .openNeed) (length links) (bandPlan values thresholds k dx dy .linkNeed)
+        × ReportExact second-is.Refused (bandRoomAt values thresholds rule k dx dy) answer (bandPlan values thresholds rule k dx dy .fit) (length lines) (bandPlan values thresholds rule k dx dy .openNeed) (length links) (bandPlan values thresholds rule k dx dy .linkNeed)
     band-second-report-exactly r =
         let exactly = worked-exact (reports _ _ _ _) (band-early (length values) dx dy (length thresholds) k) (report-worked r) in
         (fit-exact (length values) dx dy (length thresholds) k (exactly .work-exact .fit-refused-exactly), exactly)
 
     module _ (points directory : List ℕ) where
       -- two results that meet the contract of isobands on the same entry are equal
-      pub one-isobands : {p q : Built} {pl pk pp pd ql qk qp qd : List ℕ} → BandBuilt values thresholds k dx dy lines links points directory p pl pk pp pd → BandBuilt values thresholds k dx dy lines links points directory q ql qk qp qd
+      pub one-isobands : {p q : Built} {pl pk pp pd ql qk qp qd : List ℕ} → BandBuilt values thresholds rule k dx dy lines links points directory p pl pk pp pd → BandBuilt values thresholds rule k dx dy lines links points directory q ql qk qp qd
           → (p ≡ q) × (pl ≡ ql) × (pk ≡ qk) × (pp ≡ qp) × (pd ≡ qd)
       one-isobands a b = one-construction (isobands-constructed a) (isobands-constructed b)
 
       -- numbers 1 to 8 of isobands, and its rings exactly where the band fits and no table is short
-      pub isobands-exactly : {answer : Built} {lines′ links′ points′ directory′ : List ℕ} → BandBuilt values thresholds k dx dy lines links points directory answer lines′ links′ points′ directory′
-          → FitExact built-is.Refused answer (length values) dx dy (length thresholds) k × Exact (bandPlan values thresholds k dx dy) lines links points directory answer
+      pub isobands-exactly : {answer : Built} {lines′ links′ points′ directory′ : List ℕ} → BandBuilt values thresholds rule k dx dy lines links points directory answer lines′ links′ points′ directory′
+          → FitExact built-is.Refused answer (length values) dx dy (length thresholds) k × Exact (bandPlan values thresholds rule k dx dy) lines links points directory answer
       isobands-exactly b =
           let exactly = constructed-exact (band-early (length values) dx dy (length thresholds) k) (isobands-constructed b) in
           (fit-exact (length values) dx dy (length thresholds) k (exactly .work-exact .fit-refused-exactly), exactly)
 
       -- lent just the room, a band that fits gives the rings of both sets, its points and records are the whole outputs, and both work tables are all zero
-      pub isobands-exact-room : bandFit (length values) dx dy (length thresholds) k ≡ fit-is.Fits → JustRoom (bandPlan values thresholds k dx dy) lines links points directory
-          → {answer : Built} {lines′ links′ points′ directory′ : List ℕ} → BandBuilt values thresholds k dx dy lines links points directory answer lines′ links′ points′ directory′
-          → Filled (bandPlan values thresholds k dx dy) answer lines′ links′ points′ directory′
+      pub isobands-exact-room : bandFit (length values) dx dy (length thresholds) k ≡ fit-is.Fits → JustRoom (bandPlan values thresholds rule k dx dy) lines links points directory
+          → {answer : Built} {lines′ links′ points′ directory′ : List ℕ} → BandBuilt values thresholds rule k dx dy lines links points directory answer lines′ links′ points′ directory′
+          → Filled (bandPlan values thresholds rule k dx dy) answer lines′ links′ points′ directory′
       isobands-exact-room fits just b =
           fills fits
-          (points-fill (lowerSheet values thresholds k dx dy) (upperSheet values thresholds k dx dy) (terrain-outside (atLeast (getD thresholds k nan)) values dx dy) (terrain-outside (atLeast (getD thresholds (suc k) nan)) values dx dy))
-          (records-fill (lowerSheet values thresholds k dx dy) (upperSheet values thresholds k dx dy) dx dy) just (isobands-constructed b)
+          (points-fill (lowerSheet values thresholds rule k dx dy) (upperSheet values thresholds rule k dx dy) (terrain-outside (aboveAt (levelAt thresholds rule k)) values dx dy) (terrain-outside (aboveAt (levelAt thresholds rule (suc k))) values dx dy))
+          (records-fill (lowerSheet values thresholds rule k dx dy) (upperSheet values thresholds rule k dx dy) dx dy) just (isobands-constructed b)

@@ -5,8 +5,10 @@ use mathlib.Core.Bool.{false}
 use mathlib.Core.List.{List}
 use Prim.Native.Nat.{ℕ, suc, _^_, _≤_, _<_}
 use native.Mathlib.Omega.{arith}
-use lib.Ieee.{Float, nan}
-use lib.ListN.{length, getD}
+use lib.Ieee.{Float}
+use lib.ListN.{length}
+use Rattle.scope.specs.declared.Rule.{Rule}
+use Rattle.scope.specs.declared.Level.{Level}
 use Rattle.scope.specs.Limits.{noOwner}
 use Rattle.scope.specs.Drawing.{ringCount, ringsOf}
 use Rattle.scope.specs.Tables.{written}
@@ -21,7 +23,7 @@ use Rattle.grid.proofs.Laws.{a-grid-that-fits-is-sized}
 use Rattle.isoringbuilder.specs.Answers.{above}
 use Rattle.isoringbuilder.specs.declared.Built.{Built}
 use Rattle.isoringbuilder.specs.declared.Built.the-variants as built-is
-use Rattle.bands.specs.Bands.{lowerSheet, upperSheet, BandBuilt}
+use Rattle.bands.specs.Bands.{levelAt, lowerSheet, upperSheet, BandBuilt}
 use Rattle.bands.proofs.Stitched.{few-segments}
 use Rattle.contourbuilder.specs.Contours.{ContoursBuilt}
 use Rattle.contourbuilder.proofs.Laid.{Drawn}
@@ -42,36 +44,36 @@ unfolding noOwner
 checked points directory n few passes = record { few = few; passes-nine = passes; text-has = told points directory n (omega arith) passes }
 
 -- the rings of a grid that fits
-module _ (values : List Float) (threshold : Float) (dx dy : ℕ) (fits : gridFit (length values) dx dy ≡ fit-is.Fits) where
+module _ (values : List Float) (level : Level) (dx dy : ℕ) (fits : gridFit (length values) dx dy ≡ fit-is.Fits) where
   sized : Sized (length values) dx dy
   sized = a-grid-that-fits-is-sized (length values) dx dy fits
 
-  pub grid-rings-fit : Each Fit (ringsOf (above values threshold dx dy) dx dy)
-  grid-rings-fit = rings-fit dx dy Drawn (λ ring d. (d .few, d .inside)) (ringsOf (above values threshold dx dy) dx dy) (laws values threshold dx dy sized) (rings-drawn values threshold dx dy sized)
+  pub grid-rings-fit : Each Fit (ringsOf (above values level dx dy) dx dy)
+  grid-rings-fit = rings-fit dx dy Drawn (λ ring d. (d .few, d .inside)) (ringsOf (above values level dx dy) dx dy) (laws values level dx dy sized) (rings-drawn values level dx dy sized)
 
-  pub grid-rings-few : ringCount (above values threshold dx dy) dx dy ≤ 2 ^ 24
-  grid-rings-few = omega (arith, fours values threshold dx dy sized, few-segments values threshold dx dy sized)
+  pub grid-rings-few : ringCount (above values level dx dy) dx dy ≤ 2 ^ 24
+  grid-rings-few = omega (arith, fours values level dx dy sized, few-segments values level dx dy sized)
 
 -- the tables of a contour
-module _ (values : List Float) (threshold : Float) (dx dy : ℕ) (lines links points directory : List ℕ) where
-  pub contours-checked : {answer : Built} {lines′ links′ points′ directory′ : List ℕ} → ContoursBuilt values threshold dx dy lines links points directory answer lines′ links′ points′ directory′
+module _ (values : List Float) (level : Level) (dx dy : ℕ) (lines links points directory : List ℕ) where
+  pub contours-checked : {answer : Built} {lines′ links′ points′ directory′ : List ℕ} → ContoursBuilt values level dx dy lines links points directory answer lines′ links′ points′ directory′
       → (n : ℕ) → answer ≡ built-is.Rings n → Checked points′ directory′ n
   unfolding written ringCount
   contours-checked {answer} {lines′} {links′} {points′} {directory′} b n is =
-      let g = given n is (contours-constructed values threshold dx dy lines links points directory b) in
-      checked points′ directory′ n (omega (arith, g .rings-are, grid-rings-few values threshold dx dy (g .fits)))
-      (rw (g .points-are, g .directory-is, ← g .rings-are) (contour-passes (ringsOf (above values threshold dx dy) dx dy) (grid-rings-fit values threshold dx dy (g .fits)) _ _))
+      let g = given n is (contours-constructed values level dx dy lines links points directory b) in
+      checked points′ directory′ n (omega (arith, g .rings-are, grid-rings-few values level dx dy (g .fits)))
+      (rw (g .points-are, g .directory-is, ← g .rings-are) (contour-passes (ringsOf (above values level dx dy) dx dy) (grid-rings-fit values level dx dy (g .fits)) _ _))
 
 -- the tables of a band
-module _ (values thresholds : List Float) (k dx dy : ℕ) (lines links points directory : List ℕ) where
-  pub isobands-checked : {answer : Built} {lines′ links′ points′ directory′ : List ℕ} → BandBuilt values thresholds k dx dy lines links points directory answer lines′ links′ points′ directory′
+module _ (values thresholds : List Float) (rule : Rule) (k dx dy : ℕ) (lines links points directory : List ℕ) where
+  pub isobands-checked : {answer : Built} {lines′ links′ points′ directory′ : List ℕ} → BandBuilt values thresholds rule k dx dy lines links points directory answer lines′ links′ points′ directory′
       → (n : ℕ) → answer ≡ built-is.Rings n → Checked points′ directory′ n
   unfolding written ringCount
   isobands-checked {answer} {lines′} {links′} {points′} {directory′} b n is =
       let g = given n is (isobands-constructed b) in
       let fits = band-fits-exactly (length values) dx dy (length thresholds) k .1 (g .fits) .0 in
       checked points′ directory′ n
-      (omega (arith, g .rings-are, grid-rings-few values (getD thresholds k nan) dx dy fits, grid-rings-few values (getD thresholds (suc k) nan) dx dy fits))
+      (omega (arith, g .rings-are, grid-rings-few values (levelAt thresholds rule k) dx dy fits, grid-rings-few values (levelAt thresholds rule (suc k)) dx dy fits))
       (rw (g .points-are, g .directory-is, ← g .rings-are)
-      (band-passes (ringsOf (lowerSheet values thresholds k dx dy) dx dy) (ringsOf (upperSheet values thresholds k dx dy) dx dy)
-      (grid-rings-fit values (getD thresholds k nan) dx dy fits) (grid-rings-fit values (getD thresholds (suc k) nan) dx dy fits) _ _))
+      (band-passes (ringsOf (lowerSheet values thresholds rule k dx dy) dx dy) (ringsOf (upperSheet values thresholds rule k dx dy) dx dy)
+      (grid-rings-fit values (levelAt thresholds rule k) dx dy fits) (grid-rings-fit values (levelAt thresholds rule (suc k)) dx dy fits) _ _))

@@ -11,6 +11,7 @@ use lib.Ieee.{Float, nan}
 use lib.ListN.{length, getD, length-map}
 use borrow.Author.Tests.{lt-ltb}
 use Rattle.error.specs.declared.Refusal.the-variants.{BadSide}
+use Rattle.scope.specs.declared.Level.{Level}
 use Rattle.scope.specs.Limits.{noOwner}
 use Rattle.scope.specs.Cells.{Point}
 use Rattle.scope.specs.Stitching.{Line}
@@ -77,13 +78,13 @@ some-of count dx dy side refused fits = by (decLt 0 side)
     by (no h) = absurd (let r = refused (omega arith) in let z : _≡_ {A = ℕ} 0 1 = cc in omega arith)
 
 -- a contour that was built
-module _ {values : List Float} {threshold : Float} {dx dy : ℕ} {lines links points directory : List ℕ} {answer : Built} {lines′ links′ points′ directory′ : List ℕ}
-    (b : ContoursBuilt values threshold dx dy lines links points directory answer lines′ links′ points′ directory′) (n : ℕ) (is : answer ≡ built-is.Rings n) where
+module _ {values : List Float} {level : Level} {dx dy : ℕ} {lines links points directory : List ℕ} {answer : Built} {lines′ links′ points′ directory′ : List ℕ}
+    (b : ContoursBuilt values level dx dy lines links points directory answer lines′ links′ points′ directory′) (n : ℕ) (is : answer ≡ built-is.Rings n) where
   abbrev rings : List Line
-  rings = ringsOf (above values threshold dx dy) dx dy
+  rings = ringsOf (above values level dx dy) dx dy
 
-  stands : Given (contoursPlan values threshold dx dy) points directory n points′ directory′
-  stands = given n is (contours-constructed values threshold dx dy lines links points directory b)
+  stands : Given (contoursPlan values level dx dy) points directory n points′ directory′
+  stands = given n is (contours-constructed values level dx dy lines links points directory b)
 
   counted : length rings ≡ n
   unfolding ringCount
@@ -96,7 +97,7 @@ module _ {values : List Float} {threshold : Float} {dx dy : ℕ} {lines links po
   fate-is-the-list's : (i : ℕ) → i < length rings → fateAnswer points′ directory′ n i ≡ fateTold rings i
   fate-is-the-list's i h =
       rw (← counted)
-      (fate-by-rings points′ directory′ rings (λ k l. record-of k l .ring-is) (rw counted (contours-checked values threshold dx dy lines links points directory b n is .passes-nine)) i h)
+      (fate-by-rings points′ directory′ rings (λ k l. record-of k l .ring-is) (rw counted (contours-checked values level dx dy lines links points directory b n is .passes-nine)) i h)
 
   -- a ring's fate is the one by which the build acted
   pub fate-acted : (i : ℕ) → i < n → {fate : RingFate} → FateFound points′ directory′ n i fate → Acted directory′ i fate
@@ -127,7 +128,7 @@ module _ {values : List Float} {threshold : Float} {dx dy : ℕ} {lines links po
     its-vertex = ap (λ (l : Line). getD l v nowhere) (record-of i there .ring-is)
 
     its-law : RingLaw dx dy (getD rings i [])
-    its-law = each-at (RingLaw dx dy) rings [] (laws values threshold dx dy (a-grid-that-fits-is-sized (length values) dx dy (stands .fits))) i there
+    its-law = each-at (RingLaw dx dy) rings [] (laws values level dx dy (a-grid-that-fits-is-sized (length values) dx dy (stands .fits))) i there
 
     stands-midway : midway dx dy (vertexOfRing points′ directory′ i v) ≡ true
     stands-midway =
@@ -137,12 +138,12 @@ module _ {values : List Float} {threshold : Float} {dx dy : ℕ} {lines links po
         (drawn-is-midway dx dy (some-of (length values) dx dy dx (no-columns-are-refused (length values) dx dy) (stands .fits)) (some-of (length values) dx dy dy (no-rows-are-refused (length values) dx dy) (stands .fits)) (getD (getD rings i []) v nowhere) odd (inside .0) (inside .1))
 
     -- no vertex of the build is refused
-    pub vertex-explained-always : vertexAnswer values threshold dx dy points′ directory′ n i v ≡ vertex-is.Moves (vertexMoves values threshold dx dy (vertexOfRing points′ directory′ i v))
+    pub vertex-explained-always : vertexAnswer values (level .threshold) dx dy points′ directory′ n i v ≡ vertex-is.Moves (vertexMoves values (level .threshold) dx dy (vertexOfRing points′ directory′ i v))
     unfolding vertexAnswer onGrid vertexTold vertexThere
     vertex-explained-always =
         rw (
           stands .fits,
-          contours-checked values threshold dx dy lines links points directory b n is .passes-nine,
+          contours-checked values level dx dy lines links points directory b n is .passes-nine,
           lt-ltb i n ring-there,
           lt-ltb v (countAt directory′ i) vertex-there,
           stands-midway,
@@ -150,10 +151,10 @@ module _ {values : List Float} {threshold : Float} {dx dy : ℕ} {lines links po
 
     -- what is said of it is what contour_lines wrote, smoothed, then placed
     pub vertex-written : {q : Placing} {lines₂ links₂ : List ℕ} {points₂ : List Float} {directory₂ : List ℕ} {answer₂ : Built} {lines₂′ links₂′ : List ℕ} {points₂′ : List Float} {directory₂′ : List ℕ}
-        → LinesBuilt values threshold dx dy true q lines₂ links₂ points₂ directory₂ answer₂ lines₂′ links₂′ points₂′ directory₂′ → (m : ℕ) → answer₂ ≡ built-is.Rings m
-        → VertexAt points₂′ (2 * (firstAt directory′ i + v)) (placedAt q (vertexBy (vertexOfRing points′ directory′ i v) (vertexMoves values threshold dx dy (vertexOfRing points′ directory′ i v)))) nan
+        → LinesBuilt values level dx dy true q lines₂ links₂ points₂ directory₂ answer₂ lines₂′ links₂′ points₂′ directory₂′ → (m : ℕ) → answer₂ ≡ built-is.Rings m
+        → VertexAt points₂′ (2 * (firstAt directory′ i + v)) (placedAt q (vertexBy (vertexOfRing points′ directory′ i v) (vertexMoves values (level .threshold) dx dy (vertexOfRing points′ directory′ i v)))) nan
     unfolding written linePoints lineVertices lineVertex
     vertex-written {q} {lines₂} {links₂} {points₂} {directory₂} l m is₂ =
-        let g = given m is₂ (lines-constructed values threshold dx dy true q lines₂ links₂ points₂ directory₂ l) in
+        let g = given m is₂ (lines-constructed values level dx dy true q lines₂ links₂ points₂ directory₂ l) in
         rw (record-of i there .first-is, vertex-explained, its-vertex, g .points-are)
-        (vertex-stands (lineVertex true values threshold dx dy q) nowhere nan rings _ i v there in-ring)
+        (vertex-stands (lineVertex true values (level .threshold) dx dy q) nowhere nan rings _ i v there in-ring)

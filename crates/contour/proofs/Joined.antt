@@ -6,12 +6,13 @@ use mathlib.Core.List.{List}
 use Prim.Native.Nat.{ℕ, suc, max, _+_, _<_}
 use native.Mathlib.Omega.{arith}
 use lib.Dec.{ltb, leb}
-use lib.Ieee.{Float, nan}
-use lib.ListN.{length, getD}
+use lib.Ieee.{Float}
+use lib.ListN.{length}
 use borrow.Author.Tests.{lt-ltb, le-ltb, ltb-true, ltb-false}
 use Rattle.error.specs.Number.{refusalNumber}
 use Rattle.error.specs.declared.Refusal.{Refusal}
 use Rattle.error.specs.declared.Refusal.the-variants.{OpenShort, LinksShort}
+use Rattle.scope.specs.declared.Rule.{Rule}
 use Rattle.scope.specs.Terrain.{Sheet}
 use Rattle.scope.specs.Drawing.{segmentCount, peak}
 use Rattle.scope.specs.Room.{openWords, linkWords, bandOpenWords, bandLinkWords}
@@ -25,7 +26,7 @@ use Rattle.isoringbuilder.specs.Verdict.{refused, passes, afterGrid, workVerdic
 use Rattle.isoringbuilder.specs.Answers.{reported, onEntry}
 use Rattle.isoringbuilder.specs.declared.SecondReport.{SecondReport}
 use Rattle.isoringbuilder.specs.declared.SecondReport.the-variants as second-is
-use Rattle.bands.specs.Bands.{listFit, bandFit, lowerSheet, upperSheet, bandVerdict, bandRoomOf, bandFirstReport, bandReported, BandReported}
+use Rattle.bands.specs.Bands.{levelAt, listFit, bandFit, lowerSheet, upperSheet, bandVerdict, bandRoomOf, bandFirstReport, bandReported, BandReported}
 use Rattle.contour.proofs.Lowest.{rooms}
 
 -- of two refusals that of the lower number
@@ -99,7 +100,7 @@ module _ (L U : Sheet) (dx dy : ℕ) (lines links : ℕ) where
   first-by-fit (fit-is.Refused f) = ap first-is.Refused (sym (lower-same f))
 
 -- where k + 1 is a place in the list
-module _ (values thresholds : List Float) (k dx dy : ℕ) (place : suc k < length thresholds) where
+module _ (values thresholds : List Float) (rule : Rule) (k dx dy : ℕ) (place : suc k < length thresholds) where
   listed : bandFit (length values) dx dy (length thresholds) k ≡ gridFit (length values) dx dy
   unfolding bandFit listFit
   listed = by (gridFit (length values) dx dy)
@@ -109,15 +110,15 @@ module _ (values thresholds : List Float) (k dx dy : ℕ) (place : suc k < lengt
       by (fit-is.Refused f) = refl
 
   -- a band's first report joins the first reports of its two thresholds
-  pub band-first-report-joins : bandFirstReport values thresholds k dx dy ≡ joinedFirst (firstReport values (getD thresholds k nan) dx dy) (firstReport values (getD thresholds (suc k) nan) dx dy)
+  pub band-first-report-joins : bandFirstReport values thresholds rule k dx dy ≡ joinedFirst (firstReport values (levelAt thresholds rule k) dx dy) (firstReport values (levelAt thresholds rule (suc k)) dx dy)
   unfolding bandFirstReport firstReport
-  band-first-report-joins = rw listed (first-by-fit (lowerSheet values thresholds k dx dy) (upperSheet values thresholds k dx dy) dx dy 0 0 (gridFit (length values) dx dy))
+  band-first-report-joins = rw listed (first-by-fit (lowerSheet values thresholds rule k dx dy) (upperSheet values thresholds rule k dx dy) dx dy 0 0 (gridFit (length values) dx dy))
 
   -- its second report joins their second reports over the same tables
-  pub band-second-report-joins : (lines links : List ℕ) {answer : SecondReport} {lines′ links′ : List ℕ} → BandReported values thresholds k dx dy lines links answer lines′ links′
-      → answer ≡ joinedSecond (reported (onEntry values (getD thresholds k nan) dx dy lines links) (lowerSheet values thresholds k dx dy) dx dy) (reported (onEntry values (getD thresholds (suc k) nan) dx dy lines links) (upperSheet values thresholds k dx dy) dx dy)
+  pub band-second-report-joins : (lines links : List ℕ) {answer : SecondReport} {lines′ links′ : List ℕ} → BandReported values thresholds rule k dx dy lines links answer lines′ links′
+      → answer ≡ joinedSecond (reported (onEntry values (levelAt thresholds rule k) dx dy lines links) (lowerSheet values thresholds rule k dx dy) dx dy) (reported (onEntry values (levelAt thresholds rule (suc k)) dx dy lines links) (upperSheet values thresholds rule k dx dy) dx dy)
   unfolding workVerdict
   band-second-report-joins lines links r =
       r .answers
-      ∙ ap (λ (fit : GridFit). bandReported (bandVerdict fit (lowerSheet values thresholds k dx dy) (upperSheet values thresholds k dx dy) dx dy (length lines) (length links)) (lowerSheet values thresholds k dx dy) (upperSheet values thresholds k dx dy) dx dy) listed
-      ∙ by-fit (lowerSheet values thresholds k dx dy) (upperSheet values thresholds k dx dy) dx dy (length lines) (length links) (gridFit (length values) dx dy)
+      ∙ ap (λ (fit : GridFit). bandReported (bandVerdict fit (lowerSheet values thresholds rule k dx dy) (upperSheet values thresholds rule k dx dy) dx dy (length lines) (length links)) (lowerSheet values thresholds rule k dx dy) (upperSheet values thresholds rule k dx dy) dx dy) listed
+      ∙ by-fit (lowerSheet values thresholds rule k dx dy) (upperSheet values thresholds rule k dx dy) dx dy (length lines) (length links) (gridFit (length values) dx dy)

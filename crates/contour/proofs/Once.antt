@@ -4,6 +4,8 @@ use mathlib.Core.List.{List}
 use Prim.Native.Nat.{ℕ}
 use native.Mathlib.Omega.{arith}
 use lib.Ieee.{Float}
+use Rattle.scope.specs.declared.Rule.{Rule}
+use Rattle.scope.specs.declared.Level.{Level}
 use Rattle.scope.specs.Limits.{noOwner}
 use Rattle.readable.proofs.Pieces.{EachRingOnce, each-ring-once}
 use Rattle.isoringbuilder.specs.declared.Built.{Built}
@@ -17,10 +19,10 @@ unfolding noOwner
 once {points} {directory} {n} k = each-ring-once points directory n (omega (arith, k .few)) (k .passes-nine)
 
 module _ {lines links points directory : List ℕ} {answer : Built} {lines′ links′ points′ directory′ : List ℕ} {n : ℕ} (is : answer ≡ built-is.Rings n) (dx dy : ℕ) where
-  pub contours-text-has-each-ring-once : (values : List Float) (threshold : Float) → ContoursBuilt values threshold dx dy lines links points directory answer lines′ links′ points′ directory′
+  pub contours-text-has-each-ring-once : (values : List Float) (level : Level) → ContoursBuilt values level dx dy lines links points directory answer lines′ links′ points′ directory′
       → EachRingOnce points′ directory′ n
-  contours-text-has-each-ring-once values threshold b = once (contours-checked values threshold dx dy lines links points directory b n is)
+  contours-text-has-each-ring-once values level b = once (contours-checked values level dx dy lines links points directory b n is)
 
-  pub isobands-text-has-each-ring-once : (values thresholds : List Float) (k : ℕ) → BandBuilt values thresholds k dx dy lines links points directory answer lines′ links′ points′ directory′
+  pub isobands-text-has-each-ring-once : (values thresholds : List Float) (rule : Rule) (k : ℕ) → BandBuilt values thresholds rule k dx dy lines links points directory answer lines′ links′ points′ directory′
       → EachRingOnce points′ directory′ n
-  isobands-text-has-each-ring-once values thresholds k b = once (isobands-checked values thresholds k dx dy lines links points directory b n is)
+  isobands-text-has-each-ring-once values thresholds rule k b = once (isobands-checked values thresholds rule k dx dy lines links points directory b n is)

@@ -5,9 +5,11 @@ use mathlib.Core.List.{List}
 use Prim.Native.Nat.{ℕ, suc, max, _+_, _*_, _/_, _≤_}
 use native.Mathlib.Decide.{decLe}
 use native.Mathlib.Omega.{arith}
-use lib.Ieee.{Float, nan}
-use lib.ListN.{length, getD}
-use Rattle.scope.specs.Terrain.{Sheet, atLeast, terrain}
+use lib.Ieee.{Float}
+use lib.ListN.{length}
+use Rattle.scope.specs.declared.Rule.{Rule}
+use Rattle.scope.specs.declared.Level.{Level}
+use Rattle.scope.specs.Terrain.{Sheet, aboveAt, terrain}
 use Rattle.scope.specs.Drawing.{segmentCount, peak}
 use Rattle.scope.specs.Pairs.{pairsSharedByCells}
 use Rattle.laws.proofs.Edges.{Outside}
@@ -21,7 +23,7 @@ use Rattle.scan.specs.declared.FirstReport.the-variants as first-is
 use Rattle.scan.proofs.Samples.{terrain-outside}
 use Rattle.isoringbuilder.specs.Answers.{above, SecondReported}
 use Rattle.isoringbuilder.specs.declared.SecondReport.the-variants as second-is
-use Rattle.bands.specs.Bands.{bandFit, lowerSheet, upperSheet, bandRoomOf, bandFirstReport, BandReported}
+use Rattle.bands.specs.Bands.{levelAt, bandFit, lowerSheet, upperSheet, bandRoomOf, bandFirstReport, BandReported}
 use Rattle.contour.proofs.Results.{room-given}
 use Rattle.contour.proofs.Theorems.{second-worked}
 use Rattle.contour.proofs.Bands.{report-worked}
@@ -65,41 +67,41 @@ unfolding reportFor
 first-given fit-is.Fits S H s h e = cc
 first-given (fit-is.Refused why) S H s h e = absurd (let z : _≡_ {A = ℕ} 0 1 = cc in omega arith)
 
--- one threshold
-module _ (values : List Float) (threshold : Float) (dx dy : ℕ) where
+-- one level
+module _ (values : List Float) (level : Level) (dx dy : ℕ) where
   abbrev A : Sheet
-  A = terrain (atLeast threshold) values dx dy
+  A = terrain (aboveAt level) values dx dy
 
-  at-threshold : (h : ℕ) → peak A dx dy ≡ h → LargestHalf dx dy (pairsOf (above values threshold dx dy) dx dy) h
-  at-threshold h same = subst (LargestHalf dx dy (pairsOf A dx dy)) same (the-peak-is A (terrain-outside (atLeast threshold) values dx dy))
+  at-level : (h : ℕ) → peak A dx dy ≡ h → LargestHalf dx dy (pairsOf (above values level dx dy) dx dy) h
+  at-level h same = subst (LargestHalf dx dy (pairsOf A dx dy)) same (the-peak-is A (terrain-outside (aboveAt level) values dx dy))
 
-  pub first-report-peak : (s h : ℕ) → firstReport values threshold dx dy ≡ first-is.Room s h → LargestHalf dx dy (pairsOf (above values threshold dx dy) dx dy) h
+  pub first-report-peak : (s h : ℕ) → firstReport values level dx dy ≡ first-is.Room s h → LargestHalf dx dy (pairsOf (above values level dx dy) dx dy) h
   unfolding firstReport roomOf
-  first-report-peak s h e = at-threshold h (first-given (gridFit (length values) dx dy) (segmentCount A dx dy) (peak A dx dy) s h e)
+  first-report-peak s h e = at-level h (first-given (gridFit (length values) dx dy) (segmentCount A dx dy) (peak A dx dy) s h e)
 
-  pub second-report-peak : (lines links : List ℕ) {lines′ links′ : List ℕ} (s r h p : ℕ) → SecondReported values threshold dx dy lines links (second-is.Room s r h p) lines′ links′
-      → LargestHalf dx dy (pairsOf (above values threshold dx dy) dx dy) h
-  second-report-peak lines links s r h p k = at-threshold h (room-given (second-worked values threshold dx dy lines links k) .3)
+  pub second-report-peak : (lines links : List ℕ) {lines′ links′ : List ℕ} (s r h p : ℕ) → SecondReported values level dx dy lines links (second-is.Room s r h p) lines′ links′
+      → LargestHalf dx dy (pairsOf (above values level dx dy) dx dy) h
+  second-report-peak lines links s r h p k = at-level h (room-given (second-worked values level dx dy lines links k) .3)
 
 -- a band: the thresholds k and k + 1 of a list
-module _ (values thresholds : List Float) (k dx dy : ℕ) where
+module _ (values thresholds : List Float) (rule : Rule) (k dx dy : ℕ) where
   abbrev L : Sheet
-  L = lowerSheet values thresholds k dx dy
+  L = lowerSheet values thresholds rule k dx dy
 
   abbrev U : Sheet
-  U = upperSheet values thresholds k dx dy
+  U = upperSheet values thresholds rule k dx dy
 
   in-band : (h : ℕ) → max (peak L dx dy) (peak U dx dy) ≡ h → LargestHalf dx dy (morePairs L U dx dy) h
   in-band h same =
       subst (LargestHalf dx dy (morePairs L U dx dy)) same
-      (the-larger-peak-is L U (terrain-outside (atLeast (getD thresholds k nan)) values dx dy) (terrain-outside (atLeast (getD thresholds (suc k) nan)) values dx dy))
+      (the-larger-peak-is L U (terrain-outside (aboveAt (levelAt thresholds rule k)) values dx dy) (terrain-outside (aboveAt (levelAt thresholds rule (suc k))) values dx dy))
 
-  pub band-first-report-peak : (s h : ℕ) → bandFirstReport values thresholds k dx dy ≡ first-is.Room s h
-      → LargestHalf dx dy (morePairs (lowerSheet values thresholds k dx dy) (upperSheet values thresholds k dx dy) dx dy) h
+  pub band-first-report-peak : (s h : ℕ) → bandFirstReport values thresholds rule k dx dy ≡ first-is.Room s h
+      → LargestHalf dx dy (morePairs (lowerSheet values thresholds rule k dx dy) (upperSheet values thresholds rule k dx dy) dx dy) h
   unfolding bandFirstReport bandRoomOf
   band-first-report-peak s h e =
       in-band h (first-given (bandFit (length values) dx dy (length thresholds) k) (max (segmentCount L dx dy) (segmentCount U dx dy)) (max (peak L dx dy) (peak U dx dy)) s h e)
 
-  pub band-second-report-peak : (lines links : List ℕ) {lines′ links′ : List ℕ} (s r h p : ℕ) → BandReported values thresholds k dx dy lines links (second-is.Room s r h p) lines′ links′
-      → LargestHalf dx dy (morePairs (lowerSheet values thresholds k dx dy) (upperSheet values thresholds k dx dy) dx dy) h
+  pub band-second-report-peak : (lines links : List ℕ) {lines′ links′ : List ℕ} (s r h p : ℕ) → BandReported values thresholds rule k dx dy lines links (second-is.Room s r h p) lines′ links′
+      → LargestHalf dx dy (morePairs (lowerSheet values thresholds rule k dx dy) (upperSheet values thresholds rule k dx dy) dx dy) h
   band-second-report-peak lines links s r h p b = in-band h (room-given (report-worked b) .3)

@@ -7,6 +7,8 @@ use Prim.Native.Nat.{ℕ, _+_, _*_}
 use native.Mathlib.Omega.{arith}
 use lib.Ieee.{Float}
 use lib.ListN.{length}
+use Rattle.scope.specs.declared.Rule.{Rule}
+use Rattle.scope.specs.declared.Level.{Level}
 use Rattle.scope.specs.Limits.{recordStride}
 use Rattle.scope.specs.Room.{openWords, linkWords, pointWords, directoryWords, bandOpenWords, bandLinkWords, bandPointWords, bandDirectoryWords}
 use Rattle.scope.specs.Smoothing.{Placing}
@@ -68,38 +70,38 @@ module _ {Word : Type 0} {plan : Plan Word} {dx s r h p : ℕ} (told : Told plan
       }) in
       (all .answer-is ∙ ap built-is.Rings (told .rings-are), all)
 
--- ---- one threshold
+-- ---- one level
 
-module _ (values : List Float) (threshold : Float) (dx dy : ℕ) (s r h p : ℕ) {lines₀ links₀ lines₁ links₁ : List ℕ}
-    (reported : SecondReported values threshold dx dy lines₀ links₀ (second-is.Room s r h p) lines₁ links₁) where
-  drawn-told : {Word : Type 0} (packed : List Word) (records : List ℕ) → Told (drawnPlan values threshold dx dy packed records) dx s r h p
+module _ (values : List Float) (level : Level) (dx dy : ℕ) (s r h p : ℕ) {lines₀ links₀ lines₁ links₁ : List ℕ}
+    (reported : SecondReported values level dx dy lines₀ links₀ (second-is.Room s r h p) lines₁ links₁) where
+  drawn-told : {Word : Type 0} (packed : List Word) (records : List ℕ) → Told (drawnPlan values level dx dy packed records) dx s r h p
   unfolding pointWords
-  drawn-told packed records = tells (second-worked values threshold dx dy lines₀ links₀ reported) refl refl refl refl refl
+  drawn-told packed records = tells (second-worked values level dx dy lines₀ links₀ reported) refl refl refl refl refl
 
   module _ (lines links points directory : List ℕ) (room : ReportedRoom dx s r h p lines links points directory) {answer : Built} {lines′ links′ points′ directory′ : List ℕ} where
-    pub reported-room-suffices : RingsBuilt values threshold dx dy lines links points directory answer lines′ links′ points′ directory′
-        → (answer ≡ built-is.Rings r) × Filled (ringsPlan values threshold dx dy) answer lines′ links′ points′ directory′
-    reported-room-suffices k = suffices (drawn-told _ _) room (λ fits just. exact-room values threshold dx dy lines links points directory fits just k)
+    pub reported-room-suffices : RingsBuilt values level dx dy lines links points directory answer lines′ links′ points′ directory′
+        → (answer ≡ built-is.Rings r) × Filled (ringsPlan values level dx dy) answer lines′ links′ points′ directory′
+    reported-room-suffices k = suffices (drawn-told _ _) room (λ fits just. exact-room values level dx dy lines links points directory fits just k)
 
-    pub contours-reported-room-suffices : ContoursBuilt values threshold dx dy lines links points directory answer lines′ links′ points′ directory′
-        → (answer ≡ built-is.Rings r) × Filled (contoursPlan values threshold dx dy) answer lines′ links′ points′ directory′
-    contours-reported-room-suffices k = suffices (drawn-told _ _) room (λ fits just. contours-exact-room values threshold dx dy lines links points directory fits just k)
+    pub contours-reported-room-suffices : ContoursBuilt values level dx dy lines links points directory answer lines′ links′ points′ directory′
+        → (answer ≡ built-is.Rings r) × Filled (contoursPlan values level dx dy) answer lines′ links′ points′ directory′
+    contours-reported-room-suffices k = suffices (drawn-told _ _) room (λ fits just. contours-exact-room values level dx dy lines links points directory fits just k)
 
   module _ (smooth : Bool) (q : Placing) (lines links : List ℕ) (points : List Float) (directory : List ℕ) (room : ReportedRoom dx s r h p lines links points directory)
       {answer : Built} {lines′ links′ : List ℕ} {points′ : List Float} {directory′ : List ℕ} where
-    pub lines-reported-room-suffices : LinesBuilt values threshold dx dy smooth q lines links points directory answer lines′ links′ points′ directory′
-        → (answer ≡ built-is.Rings r) × Filled (linesPlan values threshold dx dy smooth q) answer lines′ links′ points′ directory′
-    lines-reported-room-suffices k = suffices (drawn-told _ _) room (λ fits just. lines-exact-room values threshold dx dy smooth q lines links points directory fits just k)
+    pub lines-reported-room-suffices : LinesBuilt values level dx dy smooth q lines links points directory answer lines′ links′ points′ directory′
+        → (answer ≡ built-is.Rings r) × Filled (linesPlan values level dx dy smooth q) answer lines′ links′ points′ directory′
+    lines-reported-room-suffices k = suffices (drawn-told _ _) room (λ fits just. lines-exact-room values level dx dy smooth q lines links points directory fits just k)
 
 -- ---- a band
 
-module _ (values thresholds : List Float) (k dx dy : ℕ) (s r h p : ℕ) {lines₀ links₀ lines₁ links₁ : List ℕ}
-    (reported : BandReported values thresholds k dx dy lines₀ links₀ (second-is.Room s r h p) lines₁ links₁) where
-  band-told : Told (bandPlan values thresholds k dx dy) dx s r h p
+module _ (values thresholds : List Float) (rule : Rule) (k dx dy : ℕ) (s r h p : ℕ) {lines₀ links₀ lines₁ links₁ : List ℕ}
+    (reported : BandReported values thresholds rule k dx dy lines₀ links₀ (second-is.Room s r h p) lines₁ links₁) where
+  band-told : Told (bandPlan values thresholds rule k dx dy) dx s r h p
   unfolding bandOpenWords bandLinkWords bandPointWords bandDirectoryWords pointWords
   band-told = tells (report-worked reported) refl refl refl (omega arith) refl
 
   pub isobands-reported-room-suffices : (lines links points directory : List ℕ) → ReportedRoom dx s r h p lines links points directory → {answer : Built} {lines′ links′ points′ directory′ : List ℕ}
-      → BandBuilt values thresholds k dx dy lines links points directory answer lines′ links′ points′ directory′ → (answer ≡ built-is.Rings r) × Filled (bandPlan values thresholds k dx dy) answer lines′ links′ points′ directory′
+      → BandBuilt values thresholds rule k dx dy lines links points directory answer lines′ links′ points′ directory′ → (answer ≡ built-is.Rings r) × Filled (bandPlan values thresholds rule k dx dy) answer lines′ links′ points′ directory′
   isobands-reported-room-suffices lines links points directory room b =
-      suffices band-told room (λ fits just. isobands-exact-room values thresholds k dx dy lines links points directory fits just b)
+      suffices band-told room (λ fits just. isobands-exact-room values thresholds rule k dx dy lines links points directory fits just b)

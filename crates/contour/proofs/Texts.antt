@@ -7,6 +7,8 @@ use Prim.Native.Nat.{ℕ}
 use native.Mathlib.Omega.{arith}
 use lib.Ieee.{Float}
 use lib.ListN.{length}
+use Rattle.scope.specs.declared.Rule.{Rule}
+use Rattle.scope.specs.declared.Level.{Level}
 use Rattle.scope.specs.Tables.{written}
 use Rattle.scope.specs.GeoJson.{ringSetRefused, geoJsonText}
 use Rattle.isoringbuilder.specs.declared.Built.{Built}
@@ -32,12 +34,12 @@ exact-text-room {ps} {directory} {rings} {text} passes just w =
 -- for the tables of a build the answer is the text's length, and no refusal
 module _ {lines links points directory : List ℕ} {answer : Built} {lines′ links′ points′ directory′ : List ℕ} {n : ℕ} (is : answer ≡ built-is.Rings n)
     {told : TextAnswer} (length-told : Length points′ directory′ n told) where
-  pub contours-have-a-length : (values : List Float) (threshold : Float) (dx dy : ℕ) → ContoursBuilt values threshold dx dy lines links points directory answer lines′ links′ points′ directory′
+  pub contours-have-a-length : (values : List Float) (level : Level) (dx dy : ℕ) → ContoursBuilt values level dx dy lines links points directory answer lines′ links′ points′ directory′
       → told ≡ text-is.Bytes (length (geoJsonText points′ directory′ n))
-  contours-have-a-length values threshold dx dy b =
-      length-exact length-told .given-exactly .0 (contours-checked values threshold dx dy lines links points directory b n is .passes-nine)
+  contours-have-a-length values level dx dy b =
+      length-exact length-told .given-exactly .0 (contours-checked values level dx dy lines links points directory b n is .passes-nine)
 
-  pub isobands-have-a-length : (values thresholds : List Float) (k dx dy : ℕ) → BandBuilt values thresholds k dx dy lines links points directory answer lines′ links′ points′ directory′
+  pub isobands-have-a-length : (values thresholds : List Float) (rule : Rule) (k dx dy : ℕ) → BandBuilt values thresholds rule k dx dy lines links points directory answer lines′ links′ points′ directory′
       → told ≡ text-is.Bytes (length (geoJsonText points′ directory′ n))
-  isobands-have-a-length values thresholds k dx dy b =
-      length-exact length-told .given-exactly .0 (isobands-checked values thresholds k dx dy lines links points directory b n is .passes-nine)
+  isobands-have-a-length values thresholds rule k dx dy b =
+      length-exact length-told .given-exactly .0 (isobands-checked values thresholds rule k dx dy lines links points directory b n is .passes-nine)

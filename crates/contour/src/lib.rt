@@ -3,7 +3,6 @@
 // None asks anything of the caller.
 use area::AreaAnswer;
 use area::Containment;
-use cells::Level;
 use explaining::PolygonAnswer;
 use explaining::RingFate;
 use explaining::VertexAnswer;
@@ -13,6 +12,8 @@ use isoringbuilder::SecondReport;
 use rows::Rows;
 use rows::Step;
 use scan::FirstReport;
+use scope::Level;
+use scope::Rule;
 use smoothing::Placement;
 ghost use mathlib.Core.Path.{_≡_};
 ghost use Rattle.area.specs.Answers.{areaAnswer, containsAnswer};
@@ -31,12 +32,12 @@ ghost use Rattle.smoothing.specs.Values.{placingOf};
 
 // The segments that a grid draws at a level and the peak of its open lines, or the lowest refusal that applies, alone.
 pub fn first_report(values: &[f64], level: Level, dx: usize, dy: usize) -> FirstReport
-    ensures { λ r. ⌜ r ≡ firstReport (now (values .entry)) (level .threshold) dx dy ⌝ }
+    ensures { λ r. ⌜ r ≡ firstReport (now (values .entry)) level dx dy ⌝ }
 {
     scan::first_report(values, level, dx, dy)
 }
 
-// All room for the rings of a grid at one threshold. On success the needed words of both work tables are zero; a refusal changes nothing.
+// All room for the rings of a grid at one level. On success the needed words of both work tables are zero; a refusal changes nothing.
 pub fn second_report(
     values: &[f64],
     level: Level,
@@ -45,12 +46,12 @@ pub fn second_report(
     lines: &mut [u32],
     links: &mut [u32],
 ) -> SecondReport
-    ensures { λ r. ⌜ SecondReported (now (values .entry)) (level .threshold) dx dy (now (lines .entry)) (now (links .entry)) r (now (lines .exit)) (now (links .exit)) ⌝ }
+    ensures { λ r. ⌜ SecondReported (now (values .entry)) level dx dy (now (lines .entry)) (now (links .entry)) r (now (lines .exit)) (now (links .exit)) ⌝ }
 {
     isoringbuilder::second_report(values, level, dx, dy, lines, links)
 }
 
-// Every ring of a grid at one threshold, in the crate's order, vertex order and first vertex, as bare rings: points packed by ring number, and a directory
+// Every ring of a grid at one level, in the crate's order, vertex order and first vertex, as bare rings: points packed by ring number, and a directory
 // record a ring. On success, and where points or directory are short, the needed words of both work tables are zero; any refusal spares the outputs.
 pub fn contour_rings(
     values: &[f64],
@@ -62,7 +63,7 @@ pub fn contour_rings(
     points: &mut [u16],
     directory: &mut [u32],
 ) -> Built
-    ensures { λ r. ⌜ RingsBuilt (now (values .entry)) (level .threshold) dx dy (now (lines .entry)) (now (links .entry)) (now (points .entry)) (now (directory .entry)) r
+    ensures { λ r. ⌜ RingsBuilt (now (values .entry)) level dx dy (now (lines .entry)) (now (links .entry)) (now (points .entry)) (now (directory .entry)) r
         (now (lines .exit)) (now (links .exit)) (now (points .exit)) (now (directory .exit)) ⌝ }
 {
     isoringbuilder::contour_rings(values, level, dx, dy, lines, links, points, directory)
@@ -105,7 +106,7 @@ pub fn rows_end(
     rows::end(state, lines, links, points, directory)
 }
 
-// Every ring of a grid at one threshold as a line, as contour_rings gives them, with points that are smoothed where that is asked, then placed: points packed by
+// Every ring of a grid at one level as a line, as contour_rings gives them, with points that are smoothed where that is asked, then placed: points packed by
 // ring number, and a directory record a ring. On success, and where points or directory are short, the needed words of both work tables are zero; any refusal
 // spares the outputs.
 pub fn contour_lines(
@@ -120,7 +121,7 @@ pub fn contour_lines(
     points: &mut [f64],
     directory: &mut [u32],
 ) -> Built
-    ensures { λ r. ⌜ LinesBuilt (now (values .entry)) (level .threshold) dx dy smooth (placingOf placement) (now (lines .entry)) (now (links .entry)) (now (points .entry)) (now (directory .entry)) r
+    ensures { λ r. ⌜ LinesBuilt (now (values .entry)) level dx dy smooth (placingOf placement) (now (lines .entry)) (now (links .entry)) (now (points .entry)) (now (directory .entry)) r
         (now (lines .exit)) (now (links .exit)) (now (points .exit)) (now (directory .exit)) ⌝ }
 {
     linebuilder::contour_lines(
@@ -137,7 +138,7 @@ pub fn contour_lines(
     )
 }
 
-// Every ring of a grid at one threshold, as contour_rings gives them, with classes and owners: points packed by ring number, and a directory record a ring, with
+// Every ring of a grid at one level, as contour_rings gives them, with classes and owners: points packed by ring number, and a directory record a ring, with
 // its class and its owner. On success, and where points or directory are short, the needed words of both work tables are zero; any refusal spares the outputs.
 pub fn contours(
     values: &[f64],
@@ -149,46 +150,49 @@ pub fn contours(
     points: &mut [u16],
     directory: &mut [u32],
 ) -> Built
-    ensures { λ r. ⌜ ContoursBuilt (now (values .entry)) (level .threshold) dx dy (now (lines .entry)) (now (links .entry)) (now (points .entry)) (now (directory .entry)) r
+    ensures { λ r. ⌜ ContoursBuilt (now (values .entry)) level dx dy (now (lines .entry)) (now (links .entry)) (now (points .entry)) (now (directory .entry)) r
         (now (lines .exit)) (now (links .exit)) (now (points .exit)) (now (directory .exit)) ⌝ }
 {
     contourbuilder::contours(values, level, dx, dy, lines, links, points, directory)
 }
 
-// The larger segment count and the larger peak of the thresholds k and k + 1 of a list, or the lowest refusal that applies, alone.
+// The larger segment count and the larger peak of the thresholds k and k + 1 of a list under a rule, or the lowest refusal that applies, alone.
 pub fn band_first_report(
     values: &[f64],
     thresholds: &[f64],
+    rule: Rule,
     k: usize,
     dx: usize,
     dy: usize,
 ) -> FirstReport
-    ensures { λ r. ⌜ r ≡ bandFirstReport (now (values .entry)) (now (thresholds .entry)) k dx dy ⌝ }
+    ensures { λ r. ⌜ r ≡ bandFirstReport (now (values .entry)) (now (thresholds .entry)) rule k dx dy ⌝ }
 {
-    bands::band_first_report(values, thresholds, k, dx, dy)
+    bands::band_first_report(values, thresholds, rule, k, dx, dy)
 }
 
-// All room for the band of thresholds k and k + 1 of a list. On success the needed words of both work tables are zero; a refusal changes nothing.
+// All room for the band of thresholds k and k + 1 of a list under a rule. On success the needed words of both work tables are zero; a refusal changes nothing.
 pub fn band_second_report(
     values: &[f64],
     thresholds: &[f64],
+    rule: Rule,
     k: usize,
     dx: usize,
     dy: usize,
     lines: &mut [u32],
     links: &mut [u32],
 ) -> SecondReport
-    ensures { λ r. ⌜ BandReported (now (values .entry)) (now (thresholds .entry)) k dx dy (now (lines .entry)) (now (links .entry)) r (now (lines .exit)) (now (links .exit)) ⌝ }
+    ensures { λ r. ⌜ BandReported (now (values .entry)) (now (thresholds .entry)) rule k dx dy (now (lines .entry)) (now (links .entry)) r (now (lines .exit)) (now (links .exit)) ⌝ }
 {
-    bands::band_second_report(values, thresholds, k, dx, dy, lines, links)
+    bands::band_second_report(values, thresholds, rule, k, dx, dy, lines, links)
 }
 
-// Every ring of the band of thresholds k and k + 1 of a list, with classes and owners: points packed by ring number, the lower set's first, and a directory record
+// Every ring of the band of thresholds k and k + 1 of a list under a rule, with classes and owners: points packed by ring number, the lower set's first, and a directory record
 // a ring in the band's sorted order. On success, and where points or directory are short, the needed words of both work tables are zero; any refusal spares the
 // outputs.
 pub fn isobands(
     values: &[f64],
     thresholds: &[f64],
+    rule: Rule,
     k: usize,
     dx: usize,
     dy: usize,
@@ -197,12 +201,13 @@ pub fn isobands(
     points: &mut [u16],
     directory: &mut [u32],
 ) -> Built
-    ensures { λ r. ⌜ BandBuilt (now (values .entry)) (now (thresholds .entry)) k dx dy (now (lines .entry)) (now (links .entry)) (now (points .entry)) (now (directory .entry)) r
+    ensures { λ r. ⌜ BandBuilt (now (values .entry)) (now (thresholds .entry)) rule k dx dy (now (lines .entry)) (now (links .entry)) (now (points .entry)) (now (directory .entry)) r
         (now (lines .exit)) (now (links .exit)) (now (points .exit)) (now (directory .exit)) ⌝ }
 {
     contourbuilder::isobands(
         values,
         thresholds,
+        rule,
         k,
         dx,
         dy,

@@ -7,6 +7,8 @@ use Prim.Native.Nat.{ℕ}
 use lib.Ieee.{Float}
 use Rattle.error.specs.Number.{refusalNumber}
 use Rattle.error.specs.declared.Refusal.{Refusal}
+use Rattle.scope.specs.declared.Rule.{Rule}
+use Rattle.scope.specs.declared.Level.{Level}
 use Rattle.scope.specs.Smoothing.{Placing}
 use Rattle.scan.specs.declared.FirstReport.{FirstReport}
 use Rattle.scan.specs.declared.FirstReport.the-variants as first-is
@@ -98,31 +100,31 @@ module _ {Word : Type 0} {BuiltAs : Built → List ℕ → List ℕ → List Wor
       (a .status-is ∙ ap builtStatus (same .0) ∙ sym (b .status-is), same .1, same .2, same .3, same .4, a .rings-are ∙ ap (builtRings r) (same .0) ∙ sym (b .rings-are))
 
 -- two results that meet the contract of contour_second_report, contour_rings, contour_contours or contour_lines on the same entry are equal
-module _ (values : List Float) (threshold : Float) (dx dy : ℕ) (lines links : List ℕ) where
-  pub one-second-entry : {s r h n : ℕ} {p q : ℕ} {pl pk ql qk : List ℕ} {ps pr ph pn qs qr qh qn : ℕ} → SecondEntry (SecondReported values threshold dx dy lines links) s r h n p pl pk ps pr ph pn
-      → SecondEntry (SecondReported values threshold dx dy lines links) s r h n q ql qk qs qr qh qn → (p ≡ q) × (pl ≡ ql) × (pk ≡ qk) × (ps ≡ qs) × (pr ≡ qr) × (ph ≡ qh) × (pn ≡ qn)
-  one-second-entry a b = one-report a b (one-second-report values threshold dx dy lines links (a .reported) (b .reported))
+module _ (values : List Float) (level : Level) (dx dy : ℕ) (lines links : List ℕ) where
+  pub one-second-entry : {s r h n : ℕ} {p q : ℕ} {pl pk ql qk : List ℕ} {ps pr ph pn qs qr qh qn : ℕ} → SecondEntry (SecondReported values level dx dy lines links) s r h n p pl pk ps pr ph pn
+      → SecondEntry (SecondReported values level dx dy lines links) s r h n q ql qk qs qr qh qn → (p ≡ q) × (pl ≡ ql) × (pk ≡ qk) × (ps ≡ qs) × (pr ≡ qr) × (ph ≡ qh) × (pn ≡ qn)
+  one-second-entry a b = one-report a b (one-second-report values level dx dy lines links (a .reported) (b .reported))
 
   module _ (points directory : List ℕ) where
-    pub one-rings-entry : {r p q : ℕ} {pl pk pp pd ql qk qp qd : List ℕ} {pr qr : ℕ} → RingsEntry (RingsBuilt values threshold dx dy lines links points directory) r p pl pk pp pd pr
-        → RingsEntry (RingsBuilt values threshold dx dy lines links points directory) r q ql qk qp qd qr → (p ≡ q) × (pl ≡ ql) × (pk ≡ qk) × (pp ≡ qp) × (pd ≡ qd) × (pr ≡ qr)
-    one-rings-entry a b = one-built a b (one-build values threshold dx dy lines links points directory (a .built) (b .built))
+    pub one-rings-entry : {r p q : ℕ} {pl pk pp pd ql qk qp qd : List ℕ} {pr qr : ℕ} → RingsEntry (RingsBuilt values level dx dy lines links points directory) r p pl pk pp pd pr
+        → RingsEntry (RingsBuilt values level dx dy lines links points directory) r q ql qk qp qd qr → (p ≡ q) × (pl ≡ ql) × (pk ≡ qk) × (pp ≡ qp) × (pd ≡ qd) × (pr ≡ qr)
+    one-rings-entry a b = one-built a b (one-build values level dx dy lines links points directory (a .built) (b .built))
 
-    pub one-contours-entry : {r p q : ℕ} {pl pk pp pd ql qk qp qd : List ℕ} {pr qr : ℕ} → RingsEntry (ContoursBuilt values threshold dx dy lines links points directory) r p pl pk pp pd pr
-        → RingsEntry (ContoursBuilt values threshold dx dy lines links points directory) r q ql qk qp qd qr → (p ≡ q) × (pl ≡ ql) × (pk ≡ qk) × (pp ≡ qp) × (pd ≡ qd) × (pr ≡ qr)
-    one-contours-entry a b = one-built a b (one-contours values threshold dx dy lines links points directory (a .built) (b .built))
+    pub one-contours-entry : {r p q : ℕ} {pl pk pp pd ql qk qp qd : List ℕ} {pr qr : ℕ} → RingsEntry (ContoursBuilt values level dx dy lines links points directory) r p pl pk pp pd pr
+        → RingsEntry (ContoursBuilt values level dx dy lines links points directory) r q ql qk qp qd qr → (p ≡ q) × (pl ≡ ql) × (pk ≡ qk) × (pp ≡ qp) × (pd ≡ qd) × (pr ≡ qr)
+    one-contours-entry a b = one-built a b (one-contours values level dx dy lines links points directory (a .built) (b .built))
 
   pub one-lines-entry : (smooth : Bool) (placing : Placing) (points : List Float) (directory : List ℕ) {r p q : ℕ} {pl pk ql qk : List ℕ} {pp qp : List Float} {pd qd : List ℕ} {pr qr : ℕ}
-      → RingsEntry (LinesBuilt values threshold dx dy smooth placing lines links points directory) r p pl pk pp pd pr
-      → RingsEntry (LinesBuilt values threshold dx dy smooth placing lines links points directory) r q ql qk qp qd qr → (p ≡ q) × (pl ≡ ql) × (pk ≡ qk) × (pp ≡ qp) × (pd ≡ qd) × (pr ≡ qr)
-  one-lines-entry smooth placing points directory a b = one-built a b (one-lines values threshold dx dy smooth placing lines links points directory (a .built) (b .built))
+      → RingsEntry (LinesBuilt values level dx dy smooth placing lines links points directory) r p pl pk pp pd pr
+      → RingsEntry (LinesBuilt values level dx dy smooth placing lines links points directory) r q ql qk qp qd qr → (p ≡ q) × (pl ≡ ql) × (pk ≡ qk) × (pp ≡ qp) × (pd ≡ qd) × (pr ≡ qr)
+  one-lines-entry smooth placing points directory a b = one-built a b (one-lines values level dx dy smooth placing lines links points directory (a .built) (b .built))
 
 -- and contour_band_second_report or contour_isobands
-module _ (values thresholds : List Float) (k dx dy : ℕ) (lines links : List ℕ) where
-  pub one-band-second-entry : {s r h n : ℕ} {p q : ℕ} {pl pk ql qk : List ℕ} {ps pr ph pn qs qr qh qn : ℕ} → SecondEntry (BandReported values thresholds k dx dy lines links) s r h n p pl pk ps pr ph pn
-      → SecondEntry (BandReported values thresholds k dx dy lines links) s r h n q ql qk qs qr qh qn → (p ≡ q) × (pl ≡ ql) × (pk ≡ qk) × (ps ≡ qs) × (pr ≡ qr) × (ph ≡ qh) × (pn ≡ qn)
-  one-band-second-entry a b = one-report a b (one-band-report values thresholds k dx dy lines links (a .reported) (b .reported))
+module _ (values thresholds : List Float) (rule : Rule) (k dx dy : ℕ) (lines links : List ℕ) where
+  pub one-band-second-entry : {s r h n : ℕ} {p q : ℕ} {pl pk ql qk : List ℕ} {ps pr ph pn qs qr qh qn : ℕ} → SecondEntry (BandReported values thresholds rule k dx dy lines links) s r h n p pl pk ps pr ph pn
+      → SecondEntry (BandReported values thresholds rule k dx dy lines links) s r h n q ql qk qs qr qh qn → (p ≡ q) × (pl ≡ ql) × (pk ≡ qk) × (ps ≡ qs) × (pr ≡ qr) × (ph ≡ qh) × (pn ≡ qn)
+  one-band-second-entry a b = one-report a b (one-band-report values thresholds rule k dx dy lines links (a .reported) (b .reported))
 
-  pub one-isobands-entry : (points directory : List ℕ) {r p q : ℕ} {pl pk pp pd ql qk qp qd : List ℕ} {pr qr : ℕ} → RingsEntry (BandBuilt values thresholds k dx dy lines links points directory) r p pl pk pp pd pr
-      → RingsEntry (BandBuilt values thresholds k dx dy lines links points directory) r q ql qk qp qd qr → (p ≡ q) × (pl ≡ ql) × (pk ≡ qk) × (pp ≡ qp) × (pd ≡ qd) × (pr ≡ qr)
-  one-isobands-entry points directory a b = one-built a b (one-isobands values thresholds k dx dy lines links points directory (a .built) (b .built))
+  pub one-isobands-entry : (points directory : List ℕ) {r p q : ℕ} {pl pk pp pd ql qk qp qd : List ℕ} {pr qr : ℕ} → RingsEntry (BandBuilt values thresholds rule k dx dy lines links points directory) r p pl pk pp pd pr
+      → RingsEntry (BandBuilt values thresholds rule k dx dy lines links points directory) r q ql qk qp qd qr → (p ≡ q) × (pl ≡ ql) × (pk ≡ qk) × (pp ≡ qp) × (pd ≡ qd) × (pr ≡ qr)
+  one-isobands-entry points directory a b = one-built a b (one-isobands values thresholds rule k dx dy lines links points directory (a .built) (b .built))

@@ -6,7 +6,7 @@ use Prim.Native.Nat.{ℕ}
 use lib.Dec.{T}
 use lib.Ieee.{binary64, fits}
 use lib.ListN.{length}
-use Rattle.cells.specs.declared.Level.{Level}
+use Rattle.scope.specs.declared.Level.{Level}
 use Rattle.error.specs.Number.{refusalNumber}
 use Rattle.error.specs.declared.Refusal.{Refusal}
 use Rattle.isoringbuilder.specs.declared.Built.{Built}
@@ -60,7 +60,7 @@ module _ (call : Rows → Outcome) (held : Rows) {found : Rows} (same-state : fo
 
 -- where a row or an end is taken, the words hold its state; `NextCall` of `rowstate` says which states are stored, begin's among them
 pub next-call-reads : {o : Outcome} {words : List ℕ} {rings status : ℕ} {words′ lines′ links′ points′ directory′ : List ℕ} {rings′ : ℕ} (level : Level) (n : ℕ)
-    → RowEntry o words rings status words′ lines′ links′ points′ directory′ rings′ → o .answer ≡ built-is.Rings n → Stored level (o .state) → T (fits binary64 (level .threshold)) → length words ≡ 140
+    → RowEntry o words rings status words′ lines′ links′ points′ directory′ rings′ → o .answer ≡ built-is.Rings n → Stored level (o .state) → T (fits binary64 (level .threshold)) → length words ≡ 141
     → stateIn words′ ≡ o .state
 unfolding stateWords
 next-call-reads {o} {words} level n entry is stored held room =

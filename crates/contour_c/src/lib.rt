@@ -1,9 +1,10 @@
 // The library for C and Rust. Each entry answers on every input: it returns 0 and sets the outputs,
-// or returns the refusal's number and leaves the outputs as they were. A slice passes as a pointer, then a length; the words of a state, whose number is fixed,
+// or returns the refusal's number and leaves the outputs as they were. A rule passes as its number. A slice passes as a pointer, then a length; the words of a state, whose number is fixed,
 // as a pointer alone.
 use area::AreaAnswer;
 use area::Containment;
-use cells::Level;
+use cells::level_of;
+use cells::rule_of;
 use error::Refusal;
 use geojson::TextAnswer;
 use isoringbuilder::Built;
@@ -21,6 +22,7 @@ ghost use mathlib.Core.Path.{_≡_};
 ghost use Rattle.scope.specs.Area.{areaRefused};
 ghost use Rattle.scope.specs.Containment.{containsRefused};
 ghost use Rattle.scope.specs.GeoJson.{ringSetRefused};
+ghost use Rattle.cells.specs.Rules.{ruleOf, levelOf};
 ghost use Rattle.scan.specs.Report.{firstReport};
 ghost use Rattle.isoringbuilder.specs.Answers.{SecondReported, RingsBuilt};
 ghost use Rattle.bands.specs.Bands.{bandFirstReport, BandReported, BandBuilt};
@@ -76,21 +78,23 @@ pub extern "C" fn contour_contains(outer: &[u16], tested: &[u16], answer: &mut i
     }
 }
 
-// The segments that a grid draws at a threshold and the peak of its open lines, with no table at all.
+// The segments that a grid draws at a threshold under a rule and the peak of its open lines, with no table at all.
 #[no_mangle]
 pub extern "C" fn contour_first_report(
     values: &[f64],
     threshold: f64,
+    rule: u32,
     dx: usize,
     dy: usize,
     segments: &mut u32,
     peak: &mut u32,
 ) -> u32
-    ensures { λ r. ⌜ r ≡ firstStatus (firstReport (now (values .entry)) threshold dx dy) ⌝ }
-    ensures { λ _. ⌜ now (segments .exit) ≡ firstSegments (now (segments .entry)) (firstReport (now (values .entry)) threshold dx dy) ⌝ }
-    ensures { λ _. ⌜ now (peak .exit) ≡ firstPeak (now (peak .entry)) (firstReport (now (values .entry)) threshold dx dy) ⌝ }
+    ensures { λ r. ⌜ r ≡ firstStatus (firstReport (now (values .entry)) (levelOf threshold rule) dx dy) ⌝ }
+    ensures { λ _. ⌜ now (segments .exit) ≡ firstSegments (now (segments .entry)) (firstReport (now (values .entry)) (levelOf threshold rule) dx dy) ⌝ }
+    ensures { λ _. ⌜ now (peak .exit) ≡ firstPeak (now (peak .entry)) (firstReport (now (values .entry)) (levelOf threshold rule) dx dy) ⌝ }
 {
-    match scan::first_report(values, Level { threshold }, dx, dy) {
+    let level = level_of(threshold, rule);
+    match scan::first_report(values, level, dx, dy) {
         FirstReport::Room {
             segments: drawn,
             peak: highest,
@@ -103,11 +107,12 @@ pub extern "C" fn contour_first_report(
     }
 }
 
-// The segments, the rings, the peak of open lines and the points of a grid at a threshold, over both work tables.
+// The segments, the rings, the peak of open lines and the points of a grid at a threshold under a rule, over both work tables.
 #[no_mangle]
 pub extern "C" fn contour_second_report(
     values: &[f64],
     threshold: f64,
+    rule: u32,
     dx: usize,
     dy: usize,
     lines: &mut [u32],
@@ -117,11 +122,12 @@ pub extern "C" fn contour_second_report(
     peak: &mut u32,
     points: &mut u32,
 ) -> u32
-    ensures { λ r. ⌜ SecondEntry (SecondReported (now (values .entry)) threshold dx dy (now (lines .entry)) (now (links .entry)))
+    ensures { λ r. ⌜ SecondEntry (SecondReported (now (values .entry)) (levelOf threshold rule) dx dy (now (lines .entry)) (now (links .entry)))
         (now (segments .entry)) (now (rings .entry)) (now (peak .entry)) (now (points .entry)) r
         (now (lines .exit)) (now (links .exit)) (now (segments .exit)) (now (rings .exit)) (now (peak .exit)) (now (points .exit)) ⌝ }
 {
-    match isoringbuilder::second_report(values, Level { threshold }, dx, dy, lines, links) {
+    let level = level_of(threshold, rule);
+    match isoringbuilder::second_report(values, level, dx, dy, lines, links) {
         SecondReport::Room {
             segments: drawn,
             rings: closed,
@@ -138,11 +144,12 @@ pub extern "C" fn contour_second_report(
     }
 }
 
-// Every ring of a grid at a threshold, in the crate's order, as packed points and directory records.
+// Every ring of a grid at a threshold under a rule, in the crate's order, as packed points and directory records.
 #[no_mangle]
 pub extern "C" fn contour_rings(
     values: &[f64],
     threshold: f64,
+    rule: u32,
     dx: usize,
     dy: usize,
     lines: &mut [u32],
@@ -151,19 +158,11 @@ pub extern "C" fn contour_rings(
     directory: &mut [u32],
     rings: &mut u32,
 ) -> u32
-    ensures { λ r. ⌜ RingsEntry (RingsBuilt (now (values .entry)) threshold dx dy (now (lines .entry)) (now (links .entry)) (now (points .entry)) (now (directory .entry))) (now (rings .entry)) r
+    ensures { λ r. ⌜ RingsEntry (RingsBuilt (now (values .entry)) (levelOf threshold rule) dx dy (now (lines .entry)) (now (links .entry)) (now (points .entry)) (now (directory .entry))) (now (rings .entry)) r
         (now (lines .exit)) (now (links .exit)) (now (points .exit)) (now (directory .exit)) (now (rings .exit)) ⌝ }
 {
-    match isoringbuilder::contour_rings(
-        values,
-        Level { threshold },
-        dx,
-        dy,
-        lines,
-        links,
-        points,
-        directory,
-    ) {
+    let level = level_of(threshold, rule);
+    match isoringbuilder::contour_rings(values, level, dx, dy, lines, links, points, directory) {
         Built::Rings(count) => {
             *rings = count;
             0
@@ -193,14 +192,15 @@ fn settle(step: Step, state: &mut [u32; STATE_WORDS], rings: &mut u32) -> u32
 #[no_mangle]
 pub extern "C" fn contour_rows_begin(
     threshold: f64,
+    rule: u32,
     dx: usize,
     dy: usize,
     state: &mut [u32; STATE_WORDS],
 ) -> u32
     ensures { λ r. ⌜ r ≡ builtStatus (begunAnswer dx dy) ⌝ }
-    ensures { λ _. ⌜ now (state .exit) ≡ stateWords (now (state .entry)) (begunState (record { threshold = threshold }) dx dy) (begunAnswer dx dy) ⌝ }
+    ensures { λ _. ⌜ now (state .exit) ≡ stateWords (now (state .entry)) (begunState (levelOf threshold rule) dx dy) (begunAnswer dx dy) ⌝ }
 {
-    let step = rows::begin(Level { threshold }, dx, dy);
+    let step = rows::begin(level_of(threshold, rule), dx, dy);
     let mut none = 0;
     settle(step, state, &mut none)
 }
@@ -242,12 +242,13 @@ pub extern "C" fn contour_rows_end(
     settle(step, state, rings)
 }
 
-// Every ring of a grid at a threshold as a line, as contour_rings gives them, with points that are smoothed unless `smooth` is 0, then placed by the origin and the
+// Every ring of a grid at a threshold under a rule as a line, as contour_rings gives them, with points that are smoothed unless `smooth` is 0, then placed by the origin and the
 // step.
 #[no_mangle]
 pub extern "C" fn contour_lines(
     values: &[f64],
     threshold: f64,
+    rule: u32,
     dx: usize,
     dy: usize,
     smooth: u32,
@@ -261,13 +262,14 @@ pub extern "C" fn contour_lines(
     directory: &mut [u32],
     rings: &mut u32,
 ) -> u32
-    ensures { λ r. ⌜ RingsEntry (LinesBuilt (now (values .entry)) threshold dx dy (asked smooth) (record { xOrigin = «x_origin»; yOrigin = «y_origin»; xStep = «x_step»; yStep = «y_step» })
+    ensures { λ r. ⌜ RingsEntry (LinesBuilt (now (values .entry)) (levelOf threshold rule) dx dy (asked smooth) (record { xOrigin = «x_origin»; yOrigin = «y_origin»; xStep = «x_step»; yStep = «y_step» })
         (now (lines .entry)) (now (links .entry)) (now (points .entry)) (now (directory .entry))) (now (rings .entry)) r
         (now (lines .exit)) (now (links .exit)) (now (points .exit)) (now (directory .exit)) (now (rings .exit)) ⌝ }
 {
+    let level = level_of(threshold, rule);
     match linebuilder::contour_lines(
         values,
-        Level { threshold },
+        level,
         dx,
         dy,
         smooth != 0,
@@ -290,11 +292,12 @@ pub extern "C" fn contour_lines(
     }
 }
 
-// Every ring of a grid at a threshold, as contour_rings gives them, with its class and its owner in its directory record.
+// Every ring of a grid at a threshold under a rule, as contour_rings gives them, with its class and its owner in its directory record.
 #[no_mangle]
 pub extern "C" fn contour_contours(
     values: &[f64],
     threshold: f64,
+    rule: u32,
     dx: usize,
     dy: usize,
     lines: &mut [u32],
@@ -303,19 +306,11 @@ pub extern "C" fn contour_contours(
     directory: &mut [u32],
     rings: &mut u32,
 ) -> u32
-    ensures { λ r. ⌜ RingsEntry (ContoursBuilt (now (values .entry)) threshold dx dy (now (lines .entry)) (now (links .entry)) (now (points .entry)) (now (directory .entry))) (now (rings .entry)) r
+    ensures { λ r. ⌜ RingsEntry (ContoursBuilt (now (values .entry)) (levelOf threshold rule) dx dy (now (lines .entry)) (now (links .entry)) (now (points .entry)) (now (directory .entry))) (now (rings .entry)) r
         (now (lines .exit)) (now (links .exit)) (now (points .exit)) (now (directory .exit)) (now (rings .exit)) ⌝ }
 {
-    match contourbuilder::contours(
-        values,
-        Level { threshold },
-        dx,
-        dy,
-        lines,
-        links,
-        points,
-        directory,
-    ) {
+    let level = level_of(threshold, rule);
+    match contourbuilder::contours(values, level, dx, dy, lines, links, points, directory) {
         Built::Rings(count) => {
             *rings = count;
             0
@@ -324,22 +319,23 @@ pub extern "C" fn contour_contours(
     }
 }
 
-// The larger segment count and the larger peak of the thresholds k and k + 1 of a list, with no table at all.
+// The larger segment count and the larger peak of the thresholds k and k + 1 of a list under a rule, with no table at all.
 #[no_mangle]
 pub extern "C" fn contour_band_first_report(
     values: &[f64],
     thresholds: &[f64],
+    rule: u32,
     k: usize,
     dx: usize,
     dy: usize,
     segments: &mut u32,
     peak: &mut u32,
 ) -> u32
-    ensures { λ r. ⌜ r ≡ firstStatus (bandFirstReport (now (values .entry)) (now (thresholds .entry)) k dx dy) ⌝ }
-    ensures { λ _. ⌜ now (segments .exit) ≡ firstSegments (now (segments .entry)) (bandFirstReport (now (values .entry)) (now (thresholds .entry)) k dx dy) ⌝ }
-    ensures { λ _. ⌜ now (peak .exit) ≡ firstPeak (now (peak .entry)) (bandFirstReport (now (values .entry)) (now (thresholds .entry)) k dx dy) ⌝ }
+    ensures { λ r. ⌜ r ≡ firstStatus (bandFirstReport (now (values .entry)) (now (thresholds .entry)) (ruleOf rule) k dx dy) ⌝ }
+    ensures { λ _. ⌜ now (segments .exit) ≡ firstSegments (now (segments .entry)) (bandFirstReport (now (values .entry)) (now (thresholds .entry)) (ruleOf rule) k dx dy) ⌝ }
+    ensures { λ _. ⌜ now (peak .exit) ≡ firstPeak (now (peak .entry)) (bandFirstReport (now (values .entry)) (now (thresholds .entry)) (ruleOf rule) k dx dy) ⌝ }
 {
-    match bands::band_first_report(values, thresholds, k, dx, dy) {
+    match bands::band_first_report(values, thresholds, rule_of(rule), k, dx, dy) {
         FirstReport::Room {
             segments: drawn,
             peak: highest,
@@ -352,12 +348,13 @@ pub extern "C" fn contour_band_first_report(
     }
 }
 
-// What a band of the thresholds k and k + 1 of a list needs, over both work tables: the larger segment count, the rings of both sets, the larger peak of open
+// What a band of the thresholds k and k + 1 of a list under a rule needs, over both work tables: the larger segment count, the rings of both sets, the larger peak of open
 // lines, and the points of both sets.
 #[no_mangle]
 pub extern "C" fn contour_band_second_report(
     values: &[f64],
     thresholds: &[f64],
+    rule: u32,
     k: usize,
     dx: usize,
     dy: usize,
@@ -368,11 +365,11 @@ pub extern "C" fn contour_band_second_report(
     peak: &mut u32,
     points: &mut u32,
 ) -> u32
-    ensures { λ r. ⌜ SecondEntry (BandReported (now (values .entry)) (now (thresholds .entry)) k dx dy (now (lines .entry)) (now (links .entry)))
+    ensures { λ r. ⌜ SecondEntry (BandReported (now (values .entry)) (now (thresholds .entry)) (ruleOf rule) k dx dy (now (lines .entry)) (now (links .entry)))
         (now (segments .entry)) (now (rings .entry)) (now (peak .entry)) (now (points .entry)) r
         (now (lines .exit)) (now (links .exit)) (now (segments .exit)) (now (rings .exit)) (now (peak .exit)) (now (points .exit)) ⌝ }
 {
-    match bands::band_second_report(values, thresholds, k, dx, dy, lines, links) {
+    match bands::band_second_report(values, thresholds, rule_of(rule), k, dx, dy, lines, links) {
         SecondReport::Room {
             segments: drawn,
             rings: closed,
@@ -389,11 +386,12 @@ pub extern "C" fn contour_band_second_report(
     }
 }
 
-// Every ring of the band of thresholds k and k + 1 of a list, with its class and its owner: points of the lower set first, and records in the band's sorted order.
+// Every ring of the band of thresholds k and k + 1 of a list under a rule, with its class and its owner: points of the lower set first, and records in the band's sorted order.
 #[no_mangle]
 pub extern "C" fn contour_isobands(
     values: &[f64],
     thresholds: &[f64],
+    rule: u32,
     k: usize,
     dx: usize,
     dy: usize,
@@ -403,12 +401,13 @@ pub extern "C" fn contour_isobands(
     directory: &mut [u32],
     rings: &mut u32,
 ) -> u32
-    ensures { λ r. ⌜ RingsEntry (BandBuilt (now (values .entry)) (now (thresholds .entry)) k dx dy (now (lines .entry)) (now (links .entry)) (now (points .entry)) (now (directory .entry))) (now (rings .entry)) r
+    ensures { λ r. ⌜ RingsEntry (BandBuilt (now (values .entry)) (now (thresholds .entry)) (ruleOf rule) k dx dy (now (lines .entry)) (now (links .entry)) (now (points .entry)) (now (directory .entry))) (now (rings .entry)) r
         (now (lines .exit)) (now (links .exit)) (now (points .exit)) (now (directory .exit)) (now (rings .exit)) ⌝ }
 {
     match contourbuilder::isobands(
         values,
         thresholds,
+        rule_of(rule),
         k,
         dx,
         dy,
@@ -520,6 +519,7 @@ pub extern "C" fn contour_polygon_answer(
 pub extern "C" fn contour_smoothed_vertex(
     values: &[f64],
     threshold: f64,
+    rule: u32,
     dx: usize,
     dy: usize,
     points: &[u16],
@@ -536,9 +536,10 @@ pub extern "C" fn contour_smoothed_vertex(
         (now («x_kind» .entry)) (now («x_fraction» .entry)) (now («y_kind» .entry)) (now («y_fraction» .entry)) r
         (now («x_kind» .exit)) (now («x_fraction» .exit)) (now («y_kind» .exit)) (now («y_fraction» .exit)) ⌝ }
 {
+    let level = level_of(threshold, rule);
     let answered = explaining::smoothed_vertex(
         values,
-        Level { threshold },
+        level,
         dx,
         dy,
         points,

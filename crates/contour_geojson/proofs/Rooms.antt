@@ -10,7 +10,8 @@ use lib.Ieee.{Float}
 use lib.ListN.{length, drop}
 use Rattle.error.specs.declared.Refusal.{Refusal}
 use Rattle.scope.specs.Limits.{sideLimit, recordStride, noOwner}
-use Rattle.scope.specs.Terrain.{Sheet, atLeast, terrain}
+use Rattle.scope.specs.declared.Level.{Level}
+use Rattle.scope.specs.Terrain.{Sheet, aboveAt, terrain}
 use Rattle.scope.specs.Stitching.{Line}
 use Rattle.scope.specs.Drawing.{segmentCount, ringCount, ringsOf, peak}
 use Rattle.scope.specs.Room.{openWords, linkWords, pointCount, pointWords, directoryWords}
@@ -38,15 +39,15 @@ use Rattle.contour.proofs.Theorems.{contours-constructed, contours-exactly}
 use Rattle.contour.proofs.Checked.{grid-rings-fit}
 use Rattle.contour_geojson.specs.Drawing.{textRoom, Small, Roomy, Writable, Stands}
 
-module _ (values : List Float) (threshold : Float) (dx dy : ℕ) (small : Small values dx dy) where
+module _ (values : List Float) (level : Level) (dx dy : ℕ) (small : Small values dx dy) where
   abbrev A : Sheet
-  A = terrain (atLeast threshold) values dx dy
+  A = terrain (aboveAt level) values dx dy
 
   abbrev rings : List Line
   rings = ringsOf A dx dy
 
   outside : Outside A dx dy
-  outside = terrain-outside (atLeast threshold) values dx dy
+  outside = terrain-outside (aboveAt level) values dx dy
 
   fits : gridFit (length values) dx dy ≡ fit-is.Fits
   unfolding programSide sideLimit
@@ -72,12 +73,12 @@ module _ (values : List Float) (threshold : Float) (dx dy : ℕ) (small : Small 
       omega (arith, segments-are-no-more-than-pairs A outside, mul-le-mul dx-low more-rows, mul-le-mul dy-low more-columns)
 
   pub rings-within : ringCount A dx dy ≤ 528
-  rings-within = omega (arith, segments-within, fours values threshold dx dy sized)
+  rings-within = omega (arith, segments-within, fours values level dx dy sized)
 
   -- ---- the text
 
   passes-nine : ringSetRefused (packedPoints rings) (contourRecords rings) (length rings) ≡ false
-  passes-nine = rw (append-nil (packedPoints rings), append-nil (contourRecords rings)) at (contour-passes rings (grid-rings-fit values threshold dx dy fits) [] [])
+  passes-nine = rw (append-nil (packedPoints rings), append-nil (contourRecords rings)) at (contour-passes rings (grid-rings-fit values level dx dy fits) [] [])
 
   pub text-within : length (contourText A dx dy) ≤ textRoom
   unfolding contourText ringCount noOwner
@@ -94,11 +95,11 @@ module _ (values : List Float) (threshold : Float) (dx dy : ℕ) (small : Small 
   -- ---- a build over tables that have the room
 
   module _ {lines links points directory text : List ℕ} (room : Roomy lines links points directory text) {answer : Built} {lines′ links′ points′ directory′ : List ℕ}
-      (k : ContoursBuilt values threshold dx dy lines links points directory answer lines′ links′ points′ directory′) where
+      (k : ContoursBuilt values level dx dy lines links points directory answer lines′ links′ points′ directory′) where
     pub all-rings : answer ≡ built-is.Rings (ringCount A dx dy)
     unfolding openWords linkWords pointCount pointWords directoryWords recordStride programSide
     all-rings =
-        contours-exactly values threshold dx dy lines links points directory k .1 .given-exactly .0 (
+        contours-exactly values level dx dy lines links points directory k .1 .given-exactly .0 (
           (fits, omega (arith, room .lines-room, peak-within, small .columns), omega (arith, room .links-room, segments-within)),
           omega (arith, room .points-room, segments-within, rings-within),
           omega (arith, room .directory-room, rings-within),
@@ -110,11 +111,11 @@ module _ (values : List Float) (threshold : Float) (dx dy : ℕ) (small : Small 
     tables-are : (ringSetRefused points′ directory′ (ringCount A dx dy) ≡ false) × (geoJsonText points′ directory′ (ringCount A dx dy) ≡ contourText A dx dy)
     unfolding contourText ringCount written
     tables-are =
-        let g = given (ringCount A dx dy) all-rings (contours-constructed values threshold dx dy lines links points directory k) in
+        let g = given (ringCount A dx dy) all-rings (contours-constructed values level dx dy lines links points directory k) in
         let pp = drop (length (packedPoints rings)) points in
         let pd = drop (length (contourRecords rings)) directory in
         rw (g .points-are, g .directory-is)
-        (contour-passes rings (grid-rings-fit values threshold dx dy fits) pp pd, text-without-what-is-behind (packedPoints rings) (contourRecords rings) (length rings) (sound (packedPoints rings) (contourRecords rings) (length rings) passes-nine) pp pd)
+        (contour-passes rings (grid-rings-fit values level dx dy fits) pp pd, text-without-what-is-behind (packedPoints rings) (contourRecords rings) (length rings) (sound (packedPoints rings) (contourRecords rings) (length rings) passes-nine) pp pd)
 
     module _ {n : ℕ} (is : answer ≡ built-is.Rings n) where
       rings-are : n ≡ ringCount A dx dy

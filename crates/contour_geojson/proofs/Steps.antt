@@ -8,7 +8,7 @@ use lib.Ieee.{Float}
 use lib.ListN.{length, take, drop, length-map, length-append}
 use lib.Seq.{take-at}
 use Rattle.error.specs.declared.Refusal.{Refusal}
-use Rattle.scope.specs.Terrain.{atLeast, terrain}
+use Rattle.scope.specs.Terrain.{aboveAt, atLeast, terrain}
 use Rattle.scope.specs.Smoothing.{whole}
 use Rattle.scope.specs.Tables.{written}
 use Rattle.scope.specs.GeoJson.{geoJsonText}
@@ -44,7 +44,7 @@ module _ {ps directory : List ℕ} {rings : ℕ} {text : List ℕ} (w : Writable
 -- ---- what was read
 
 same-text : (i : Input) {grid : List Float} {threshold : Float} {dx dy : ℕ} → grid ≡ map whole (i .values) → threshold ≡ whole (i .threshold) → dx ≡ i .dx → dy ≡ i .dy
-    → contourText (terrain (atLeast threshold) grid dx dy) dx dy ≡ programText i
+    → contourText (terrain (aboveAt (atLeast threshold)) grid dx dy) dx dy ≡ programText i
 unfolding programText inputSheet
 same-text i g t x y = rw (g, t, x, y)
 
@@ -89,7 +89,7 @@ module _ (input : List ℕ) (values values′ : List Float) (r : Reading) (p : I
         all-values = ap length grid-of ∙ values-many;
       }
 
-      pub input-drawn : {text : List ℕ} {m : ℕ} {text′ : List ℕ} → Stands (contourText (terrain (atLeast threshold) (take (n - 0) values′) dx dy) dx dy) text m text′
+      pub input-drawn : {text : List ℕ} {m : ℕ} {text′ : List ℕ} → Stands (contourText (terrain (aboveAt (atLeast threshold)) (take (n - 0) values′) dx dy) dx dy) text m text′
           → InputDrawn input text (drawn-is.Text m) text′
       unfolding InputDrawn
       input-drawn {text} {m} {text′} s = record {

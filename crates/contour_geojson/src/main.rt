@@ -1,6 +1,5 @@
 // Reads a terrain and its threshold from standard input and writes the regions that reach the threshold, as GeoJSON: one MultiPolygon. A text that is faulty is
 // refused with number 12, and nothing else is: the tables have room for every terrain that is read.
-use cells::Level;
 use contourbuilder::contours;
 use error::Refusal;
 use geojson::TextAnswer;
@@ -9,10 +8,12 @@ use isoringbuilder::Built;
 use reading::Reading;
 use reading::VALUES;
 use reading::read_input;
+use scope::Level;
+use scope::Rule;
 ghost use mathlib.Core.Path.{_≡_};
 ghost use Prim.Native.Nat.{_*_, _≤_};
 ghost use lib.ListN.{length};
-ghost use Rattle.scope.specs.Terrain.{atLeast, terrain};
+ghost use Rattle.scope.specs.Terrain.{aboveAt, atLeast, terrain};
 ghost use Rattle.scope.specs.GeoJson.{geoJsonText};
 ghost use Rattle.scope.specs.Program.{programSide, contourText};
 ghost use Rattle.contour_geojson.specs.Drawing.{textRoom, Small, Roomy, Writable, Stands, InputDrawn};
@@ -64,9 +65,12 @@ fn write_over(
     text: &mut [u8],
 ) -> u64
     requires { ⌜ Small (now values) dx dy × Roomy (now lines) (now links) (now points) (now directory) (now text) ⌝ }
-    ensures { λ r. ⌜ Stands (contourText (terrain (atLeast threshold) (now (values .entry)) dx dy) dx dy) (now (text .entry)) r (now (text .exit)) ⌝ }
+    ensures { λ r. ⌜ Stands (contourText (terrain (aboveAt (atLeast threshold)) (now (values .entry)) dx dy) dx dy) (now (text .entry)) r (now (text .exit)) ⌝ }
 {
-    let level = Level { threshold };
+    let level = Level {
+        threshold,
+        rule: Rule::AtLeast,
+    };
     match contours(values, level, dx, dy, lines, links, points, directory) {
         Built::Refused(_) => 0,
         Built::Rings(rings) => write_rings(points, directory, rings, text),
@@ -76,7 +80,7 @@ fn write_over(
 // Draws the regions of a terrain, writes their text and answers its length.
 fn write_contour(values: &[f64], threshold: f64, dx: usize, dy: usize, text: &mut [u8]) -> u64
     requires { ⌜ Small (now values) dx dy × (textRoom ≤ length (now text)) ⌝ }
-    ensures { λ r. ⌜ Stands (contourText (terrain (atLeast threshold) (now (values .entry)) dx dy) dx dy) (now (text .entry)) r (now (text .exit)) ⌝ }
+    ensures { λ r. ⌜ Stands (contourText (terrain (aboveAt (atLeast threshold)) (now (values .entry)) dx dy) dx dy) (now (text .entry)) r (now (text .exit)) ⌝ }
 {
     let mut lines = [0u32; LINES];
     let mut links = [0u32; LINKS];

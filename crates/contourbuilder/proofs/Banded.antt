@@ -11,7 +11,8 @@ use lib.Seq.{sets, length-take-le, drop-at, drop-drop, getD-append-add}
 use Rattle.error.specs.declared.Refusal.{Refusal}
 use Rattle.error.specs.declared.Refusal.the-variants.{PointsShort, DirectoryShort}
 use Rattle.scope.specs.Limits.{recordStride}
-use Rattle.scope.specs.Terrain.{Sheet, atLeast, terrain}
+use Rattle.scope.specs.declared.Level.{Level}
+use Rattle.scope.specs.Terrain.{Sheet, aboveAt, terrain}
 use Rattle.scope.specs.Stitching.{Line}
 use Rattle.scope.specs.Drawing.{segmentCount, ringCount, ringsOf, peak}
 use Rattle.scope.specs.Room.{openWords, linkWords, pointWords, directoryWords, bandOpenWords, bandLinkWords, bandPointWords, bandDirectoryWords}
@@ -108,12 +109,12 @@ isobands-unfit fit why e L U dx dy lines links points directory =
     subst (λ (f : GridFit). BuiltOver f L U dx dy lines links points directory (built-is.Refused why) lines links points directory) (sym e)
     (record { answers = refl; lines-are = refl; links-are = refl; points-are = refl; directory-is = refl })
 
-module _ (values : List Float) (lower upper : Float) (dx dy : ℕ) (lines links : List ℕ) where
+module _ (values : List Float) (lower upper : Level) (dx dy : ℕ) (lines links : List ℕ) where
   abbrev L : Sheet
-  L = terrain (atLeast lower) values dx dy
+  L = terrain (aboveAt lower) values dx dy
 
   abbrev U : Sheet
-  U = terrain (atLeast upper) values dx dy
+  U = terrain (aboveAt upper) values dx dy
 
   pub isobands-refused : (answer : BandPass) (why : Refusal) → answer ≡ pass-is.Refused why → (lines′ links′ marks′ : List ℕ) → BandPassed values lower upper dx dy lines links answer lines′ links′ marks′
       → (points directory : List ℕ) → BuiltOver fit-is.Fits L U dx dy lines links points directory (built-is.Refused why) lines′ links′ points directory
@@ -131,7 +132,7 @@ module _ (values : List Float) (lower upper : Float) (dx dy : ℕ) (lines links 
 
   module _ (sized : Sized (length values) dx dy) {drawing : BandDrawing} {lines₁ links₁ : List ℕ} (done : BandDone values lower upper dx dy lines links drawing lines₁ links₁)
       (points directory : List ℕ) (answer : Built) (lines₂ links₂ points′ directory₁ : List ℕ)
-      (packs : BandPacked (terrain (atLeast lower) values dx dy) dx dy drawing lines₁ links₁ points directory answer lines₂ links₂ points′ directory₁)
+      (packs : BandPacked (terrain (aboveAt lower) values dx dy) dx dy drawing lines₁ links₁ points directory answer lines₂ links₂ points′ directory₁)
       (filled : ℕ) (filled-need : filled ≡ bandPointWords (drawing .«lower_segments») (drawing .«lower_rings») (drawing .«upper_segments») (drawing .«upper_rings»)) where
     abbrev outputs : Verdict
     outputs = bandOutputs L U dx dy (length points) (length directory)

@@ -9,8 +9,9 @@ use lib.Ieee.{Float}
 use lib.ListN.{length, getD, take, drop, replicate, length-append}
 use lib.Seq.{length-take-le, take-at, drop-at}
 use Rattle.error.specs.declared.Refusal.{Refusal}
+use Rattle.scope.specs.declared.Level.{Level}
 use Rattle.scope.specs.Limits.{recordStride}
-use Rattle.scope.specs.Terrain.{Sheet, atLeast, terrain}
+use Rattle.scope.specs.Terrain.{Sheet, aboveAt, terrain}
 use Rattle.scope.specs.Stitching.{Line}
 use Rattle.scope.specs.Drawing.{segmentCount, ringCount, ringsOf, peak}
 use Rattle.scope.specs.Room.{openWords, linkWords, pointWords, directoryWords}
@@ -52,16 +53,16 @@ pub cleared-same : (words : ℕ) (table table′ : List ℕ) → length table′
 unfolding cleared
 cleared-same words table table′ long past = ap₂ (λ (n : ℕ) (l : List ℕ). replicate (min words n) 0 ++ l) long past
 
-module _ (values : List Float) (threshold : Float) (dx dy : ℕ) (lines links : List ℕ) where
+module _ (values : List Float) (level : Level) (dx dy : ℕ) (lines links : List ℕ) where
   abbrev A : Sheet
-  A = terrain (atLeast threshold) values dx dy
+  A = terrain (aboveAt level) values dx dy
 
-  pub contours-refused : (answer : Pass) (why : Refusal) → answer ≡ pass-is.Refused why → (lines′ links′ : List ℕ) → Passed values threshold dx dy lines links answer lines′ links′ → (points directory : List ℕ)
-      → ContoursBuilt values threshold dx dy lines links points directory (built-is.Refused why) lines′ links′ points directory
+  pub contours-refused : (answer : Pass) (why : Refusal) → answer ≡ pass-is.Refused why → (lines′ links′ : List ℕ) → Passed values level dx dy lines links answer lines′ links′ → (points directory : List ℕ)
+      → ContoursBuilt values level dx dy lines links points directory (built-is.Refused why) lines′ links′ points directory
   unfolding outputAfter
   contours-refused answer why is lines′ links′ k points directory =
-      let rings = rings-refused values threshold dx dy lines links answer why is lines′ links′ k points directory in
-      let facts = refused-facts values threshold dx dy lines links answer why is lines′ links′ k in
+      let rings = rings-refused values level dx dy lines links answer why is lines′ links′ k points directory in
+      let facts = refused-facts values level dx dy lines links answer why is lines′ links′ k in
       record {
         answers = rings .answers;
         lines-are = rings .lines-are;
@@ -70,12 +71,12 @@ module _ (values : List Float) (threshold : Float) (dx dy : ℕ) (lines links : 
         directory-is = ap (λ (v : Verdict). outputAfter v (outputVerdict A dx dy (length points) (length directory)) (contourRecords (ringsOf A dx dy)) directory) (sym (facts .0));
       }
 
-  module _ (drawing : Drawing) (lines₁ links₁ : List ℕ) (done : Done values threshold dx dy lines links drawing lines₁ links₁) (points directory : List ℕ) (answer : Built) (points′ directory₁ : List ℕ)
+  module _ (drawing : Drawing) (lines₁ links₁ : List ℕ) (done : Done values level dx dy lines links drawing lines₁ links₁) (points directory : List ℕ) (answer : Built) (points′ directory₁ : List ℕ)
       (packed : Packed drawing dx links₁ points directory answer points′ directory₁)
       (words : ℕ) (words-need : words ≡ linkWords (drawing .segments)) (filled : ℕ) (filled-need : filled ≡ pointWords (drawing .segments) (drawing .rings)) where
     -- what contour_rings would leave here
-    bare : RingsBuilt values threshold dx dy lines links points directory answer (cleared lines₁ (openWords dx (drawing .peak))) (cleared links₁ (linkWords (drawing .segments))) points′ directory₁
-    bare = built-done values threshold dx dy lines links drawing lines₁ links₁ done points directory answer points′ directory₁ packed
+    bare : RingsBuilt values level dx dy lines links points directory answer (cleared lines₁ (openWords dx (drawing .peak))) (cleared links₁ (linkWords (drawing .segments))) points′ directory₁
+    bare = built-done values level dx dy lines links drawing lines₁ links₁ done points directory answer points′ directory₁ packed
 
     abbrev outputs : Verdict
     outputs = outputVerdict A dx dy (length points) (length directory)
@@ -84,7 +85,7 @@ module _ (values : List Float) (threshold : Float) (dx dy : ℕ) (lines links : 
     words-are = words-need ∙ ap (λ (d : Drawing). linkWords (d .segments)) (done .is-drawing)
 
     filled-is : filled ≡ length (packedPoints (ringsOf A dx dy))
-    filled-is = filled-need ∙ ap (λ (d : Drawing). pointWords (d .segments) (d .rings)) (done .is-drawing) ∙ sym (packed-points-fill-their-room A (outside values threshold dx dy (done .sized)))
+    filled-is = filled-need ∙ ap (λ (d : Drawing). pointWords (d .segments) (d .rings)) (done .is-drawing) ∙ sym (packed-points-fill-their-room A (outside values level dx dy (done .sized)))
 
     abbrev front : List ℕ
     front = take filled points′
@@ -92,7 +93,7 @@ module _ (values : List Float) (threshold : Float) (dx dy : ℕ) (lines links : 
     links-long : linkWords (segmentCount A dx dy) ≤ length links₁
     links-long =
         let sized = done .sized in
-        let kept = links-kept A (outside values threshold dx dy sized) lines links (done .lines-fit) (done .links-fit) (segments-fit values threshold dx dy sized) (peak-fits values threshold dx dy sized) in
+        let kept = links-kept A (outside values level dx dy sized) lines links (done .lines-fit) (done .links-fit) (segments-fit values level dx dy sized) (peak-fits values level dx dy sized) in
         subst (λ (l : List ℕ). linkWords (segmentCount A dx dy) ≤ length l) (sym (done .links-are)) (unfold stitchedTables in kept .0)
 
     -- the answer and the outputs, by the verdict on the outputs
@@ -111,7 +112,7 @@ module _ (values : List Float) (threshold : Float) (dx dy : ℕ) (lines links : 
 
       bare-length : length (bareRecords 0 0 (ringsOf A dx dy)) ≡ 4 * ringCount A dx dy
       unfolding directoryWords recordStride
-      bare-length = records-fill-their-room A (outside values threshold dx dy (done .sized))
+      bare-length = records-fill-their-room A (outside values level dx dy (done .sized))
 
       filled-there : (filled ≤ length points′) × (front ≡ packedPoints (ringsOf A dx dy))
       filled-there = rw points-written (written-front (packedPoints (ringsOf A dx dy)) points filled filled-is)
@@ -131,11 +132,11 @@ module _ (values : List Float) (threshold : Float) (dx dy : ℕ) (lines links : 
           let long : words ≤ length links₁ = omega (arith, words-are, links-long) in (
             long,
             filled-there .0,
-            workable laid (rings-drawn values threshold dx dy sized)
-                (omega (arith, fours values threshold dx dy sized, few-segments values threshold dx dy sized))
-                (omega (arith, points-are values threshold dx dy sized, points-fit values threshold dx dy sized))
+            workable laid (rings-drawn values level dx dy sized)
+                (omega (arith, fours values level dx dy sized, few-segments values level dx dy sized))
+                (omega (arith, points-are values level dx dy sized, points-fit values level dx dy sized))
                 (take words links₁)
-                (omega (arith, length-take-le words links₁ long, words-are, fours values threshold dx dy sized)),
+                (omega (arith, length-take-le words links₁ long, words-are, fours values level dx dy sized)),
           )
 
       owned-here : ownedDirectory false (built-is.Rings (ringCount A dx dy)) front directory₁ ≡ written (contourRecords (ringsOf A dx dy)) directory
@@ -176,7 +177,7 @@ module _ (values : List Float) (threshold : Float) (dx dy : ℕ) (lines links : 
 
     pub contours-done : (links₂ directory′ : List ℕ) → OwnersFound false answer words links₁ links₂ filled points′ directory₁ directory′
         → (lines′ links′ : List ℕ) → lines′ ≡ cleared lines₁ (openWords dx (drawing .peak)) → links′ ≡ cleared links₂ words
-        → ContoursBuilt values threshold dx dy lines links points directory answer lines′ links′ points′ directory′
+        → ContoursBuilt values level dx dy lines links points directory answer lines′ links′ points′ directory′
     contours-done links₂ directory′ found lines′ links′ lines-cleared links-cleared = record {
       answers = bare .answers;
       lines-are = lines-cleared ∙ bare .lines-are;

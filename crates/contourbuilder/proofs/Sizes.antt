@@ -7,8 +7,9 @@ use native.Mathlib.Nat.{le-of-suc-le-suc, not-suc-le-zero}
 use native.Mathlib.Omega.{arith}
 use lib.Ieee.{Float}
 use lib.ListN.{length, getD}
+use Rattle.scope.specs.declared.Level.{Level}
 use Rattle.scope.specs.Limits.{sideLimit, coordinateLimit, pointLimit}
-use Rattle.scope.specs.Terrain.{Sheet, atLeast, terrain}
+use Rattle.scope.specs.Terrain.{Sheet, aboveAt, terrain}
 use Rattle.scope.specs.Cells.{Point}
 use Rattle.scope.specs.Stitching.{Line}
 use Rattle.scope.specs.Drawing.{segmentsOf, segmentCount, ringsOf, ringCount}
@@ -56,26 +57,26 @@ each-drawn dx dy hx hy (ring ∷ rings) few e = (
   each-drawn dx dy hx hy rings (omega arith) (e .1),
 )
 
-module _ (values : List Float) (threshold : Float) (dx dy : ℕ) (sized : Sized (length values) dx dy) where
+module _ (values : List Float) (level : Level) (dx dy : ℕ) (sized : Sized (length values) dx dy) where
   abbrev A : Sheet
-  A = terrain (atLeast threshold) values dx dy
+  A = terrain (aboveAt level) values dx dy
 
-  pub laws : Each (RingLaw dx dy) (ringsOf (terrain (atLeast threshold) values dx dy) dx dy)
+  pub laws : Each (RingLaw dx dy) (ringsOf (terrain (aboveAt level) values dx dy) dx dy)
   unfolding ringsOf
-  laws = rings-are-rings A (outside values threshold dx dy sized) dy (suc dx) (omega arith) (omega arith)
+  laws = rings-are-rings A (outside values level dx dy sized) dy (suc dx) (omega arith) (omega arith)
 
-  pub points-are : total length (ringsOf (terrain (atLeast threshold) values dx dy) dx dy) ≡ segmentCount (terrain (atLeast threshold) values dx dy) dx dy + ringCount (terrain (atLeast threshold) values dx dy) dx dy
-  points-are = points-are-segments-and-rings A (outside values threshold dx dy sized)
+  pub points-are : total length (ringsOf (terrain (aboveAt level) values dx dy) dx dy) ≡ segmentCount (terrain (aboveAt level) values dx dy) dx dy + ringCount (terrain (aboveAt level) values dx dy) dx dy
+  points-are = points-are-segments-and-rings A (outside values level dx dy sized)
 
   -- four segments a ring or more
-  pub fours : 4 * ringCount (terrain (atLeast threshold) values dx dy) dx dy ≤ segmentCount (terrain (atLeast threshold) values dx dy) dx dy
+  pub fours : 4 * ringCount (terrain (aboveAt level) values dx dy) dx dy ≤ segmentCount (terrain (aboveAt level) values dx dy) dx dy
   unfolding ringCount
   fours = omega (arith, fives dx dy (ringsOf A dx dy) laws, points-are)
 
   few-points : total length (ringsOf A dx dy) ≤ pointLimit
   unfolding segmentCount segmentsOf sideLimit pointLimit
-  few-points = omega (arith, points-are, fours, segments-are-few A (outside values threshold dx dy sized) sideLimit dy (suc dx) (sized .columns) (sized .rows) (omega arith))
+  few-points = omega (arith, points-are, fours, segments-are-few A (outside values level dx dy sized) sideLimit dy (suc dx) (sized .columns) (sized .rows) (omega arith))
 
-  pub rings-drawn : Each Drawn (ringsOf (terrain (atLeast threshold) values dx dy) dx dy)
+  pub rings-drawn : Each Drawn (ringsOf (terrain (aboveAt level) values dx dy) dx dy)
   unfolding sideLimit coordinateLimit
   rings-drawn = each-drawn dx dy (omega (arith, sized .columns)) (omega (arith, sized .rows)) (ringsOf A dx dy) few-points laws

@@ -6,7 +6,6 @@ use bands::band_pair;
 use bands::band_pass;
 use bands::band_point_words;
 use bands::larger;
-use cells::Level;
 use grid::GridFit;
 use isoringbuilder::Built;
 use isoringbuilder::Pass;
@@ -19,9 +18,11 @@ use packing::clear;
 use regions::own_band;
 use regions::own_contour;
 use scan::TILES;
+use scope::Level;
+use scope::Rule;
 ghost use mathlib.Core.Path.{_≡_};
 ghost use lib.ListN.{length};
-ghost use Rattle.scope.specs.Terrain.{atLeast, terrain};
+ghost use Rattle.scope.specs.Terrain.{aboveAt, terrain};
 ghost use Rattle.scope.specs.Tables.{written};
 ghost use Rattle.grid.specs.Grid.{gridFit};
 ghost use Rattle.bands.specs.Bands.{BuiltOver, BandBuilt};
@@ -61,7 +62,7 @@ fn own_rings(
     }
 }
 
-// Every ring of a grid at one threshold, as contour_rings has them, with classes and owners: a directory record a ring, by ring number. On success, and where
+// Every ring of a grid at one level, as contour_rings has them, with classes and owners: a directory record a ring, by ring number. On success, and where
 // points or directory are short, the needed words of both work tables are zero; any refusal spares the outputs.
 pub fn contours(
     values: &[f64],
@@ -73,7 +74,7 @@ pub fn contours(
     points: &mut [u16],
     directory: &mut [u32],
 ) -> Built
-    ensures { λ r. ⌜ ContoursBuilt (now (values .entry)) (level .threshold) dx dy (now (lines .entry)) (now (links .entry)) (now (points .entry)) (now (directory .entry)) r
+    ensures { λ r. ⌜ ContoursBuilt (now (values .entry)) level dx dy (now (lines .entry)) (now (links .entry)) (now (points .entry)) (now (directory .entry)) r
         (now (lines .exit)) (now (links .exit)) (now (points .exit)) (now (directory .exit)) ⌝ }
 {
     match run_pass(values, level, dx, dy, lines, links) {
@@ -105,7 +106,7 @@ fn band_over(
     directory: &mut [u32],
 ) -> Built
     requires { ⌜ gridFit (length (now values)) dx dy ≡ GridFit.Fits ⌝ }
-    ensures { λ r. ⌜ BuiltOver GridFit.Fits (terrain (atLeast (lower .threshold)) (now (values .entry)) dx dy) (terrain (atLeast (upper .threshold)) (now (values .entry)) dx dy) dx dy
+    ensures { λ r. ⌜ BuiltOver GridFit.Fits (terrain (aboveAt lower) (now (values .entry)) dx dy) (terrain (aboveAt upper) (now (values .entry)) dx dy) dx dy
         (now (lines .entry)) (now (links .entry)) (now (points .entry)) (now (directory .entry)) r
         (now (lines .exit)) (now (links .exit)) (now (points .exit)) (now (directory .exit)) ⌝ }
 {
@@ -142,6 +143,7 @@ fn band_over(
 pub fn isobands(
     values: &[f64],
     thresholds: &[f64],
+    rule: Rule,
     k: usize,
     dx: usize,
     dy: usize,
@@ -150,10 +152,10 @@ pub fn isobands(
     points: &mut [u16],
     directory: &mut [u32],
 ) -> Built
-    ensures { λ r. ⌜ BandBuilt (now (values .entry)) (now (thresholds .entry)) k dx dy (now (lines .entry)) (now (links .entry)) (now (points .entry)) (now (directory .entry)) r
+    ensures { λ r. ⌜ BandBuilt (now (values .entry)) (now (thresholds .entry)) rule k dx dy (now (lines .entry)) (now (links .entry)) (now (points .entry)) (now (directory .entry)) r
         (now (lines .exit)) (now (links .exit)) (now (points .exit)) (now (directory .exit)) ⌝ }
 {
-    match band_pair(values.len(), dx, dy, thresholds, k) {
+    match band_pair(values.len(), dx, dy, thresholds, rule, k) {
         BandFit::Refused(refusal) => Built::Refused(refusal),
         BandFit::Fits(lower, upper) => band_over(
             values,

@@ -1,6 +1,5 @@
 // Why a ring is what it is: its fate by the points of a ring set, what one ring of the set answers for another, and what smoothing does to a vertex. Nothing is
 // asked of the caller, no table is lent but the set itself, and nothing changes.
-use cells::Level;
 use cells::Point;
 use deciding::Decision;
 use deciding::decide;
@@ -10,6 +9,7 @@ use grid::grid_fit;
 use noting::area_at;
 use ringset::record_at;
 use ringset::ring_set_faulty;
+use scope::Level;
 use smoothing::VertexMoves;
 use smoothing::vertex_moves;
 ghost use mathlib.Core.Path.{_≡_};

@@ -12,7 +12,8 @@ use lib.Seq.{sets}
 use borrow.Author.Tests.{ltb-false}
 use Rattle.error.specs.declared.Refusal.{Refusal}
 use Rattle.error.specs.declared.Refusal.the-variants.{OpenShort, LinksShort}
-use Rattle.scope.specs.Terrain.{Sheet, atLeast, terrain}
+use Rattle.scope.specs.declared.Level.{Level}
+use Rattle.scope.specs.Terrain.{Sheet, aboveAt, terrain}
 use Rattle.scope.specs.Drawing.{segmentCount, ringCount, ringsOf, peak}
 use Rattle.scope.specs.Room.{openWords, linkWords, pointCount, pointWords, directoryWords}
 use Rattle.scope.specs.Tables.{zeroed, written, packedPoints, bareRecords}
@@ -55,32 +56,32 @@ fitting fit-is.Fits m need n need′ e = by (ltb m need) (ltb n need′) refl re
     by false true ea eb k = absurd (let z : _≡_ {A = ℕ} 0 1 = cc in omega arith)
     by false false ea eb k = record { grid = refl; first = ltb-false m need ea; second = ltb-false n need′ eb }
 
-module _ (values : List Float) (threshold : Float) (dx dy : ℕ) (lines links : List ℕ) where
+module _ (values : List Float) (level : Level) (dx dy : ℕ) (lines links : List ℕ) where
   abbrev A : Sheet
-  A = terrain (atLeast threshold) values dx dy
+  A = terrain (aboveAt level) values dx dy
 
   abbrev verdict : Verdict
-  verdict = workVerdict (terrain (atLeast threshold) values dx dy) (length values) dx dy (length lines) (length links)
+  verdict = workVerdict (terrain (aboveAt level) values dx dy) (length values) dx dy (length lines) (length links)
 
   abbrev stitched : Tables
-  stitched = stitchedTables (terrain (atLeast threshold) values dx dy) dx dy lines links
+  stitched = stitchedTables (terrain (aboveAt level) values dx dy) dx dy lines links
 
   -- what is known after a pass that was done
   pub record Done (drawing : Drawing) (lines′ links′ : List ℕ) : Type 0 where
-    pub is-passes : workVerdict (terrain (atLeast threshold) values dx dy) (length values) dx dy (length lines) (length links) ≡ passes
+    pub is-passes : workVerdict (terrain (aboveAt level) values dx dy) (length values) dx dy (length lines) (length links) ≡ passes
     pub is-drawing : drawing ≡ record {
-      segments = segmentCount (terrain (atLeast threshold) values dx dy) dx dy;
-      peak = peak (terrain (atLeast threshold) values dx dy) dx dy;
-      rings = ringCount (terrain (atLeast threshold) values dx dy) dx dy;
-      head = stitchedTables (terrain (atLeast threshold) values dx dy) dx dy lines links .progress .head;
+      segments = segmentCount (terrain (aboveAt level) values dx dy) dx dy;
+      peak = peak (terrain (aboveAt level) values dx dy) dx dy;
+      rings = ringCount (terrain (aboveAt level) values dx dy) dx dy;
+      head = stitchedTables (terrain (aboveAt level) values dx dy) dx dy lines links .progress .head;
     }
-    pub lines-are : lines′ ≡ stitchedTables (terrain (atLeast threshold) values dx dy) dx dy lines links .lines
-    pub links-are : links′ ≡ stitchedTables (terrain (atLeast threshold) values dx dy) dx dy lines links .links
+    pub lines-are : lines′ ≡ stitchedTables (terrain (aboveAt level) values dx dy) dx dy lines links .lines
+    pub links-are : links′ ≡ stitchedTables (terrain (aboveAt level) values dx dy) dx dy lines links .links
     pub sized : Sized (length values) dx dy
-    pub lines-fit : openWords dx (peak (terrain (atLeast threshold) values dx dy) dx dy) ≤ length lines
-    pub links-fit : linkWords (segmentCount (terrain (atLeast threshold) values dx dy) dx dy) ≤ length links
+    pub lines-fit : openWords dx (peak (terrain (aboveAt level) values dx dy) dx dy) ≤ length lines
+    pub links-fit : linkWords (segmentCount (terrain (aboveAt level) values dx dy) dx dy) ≤ length links
 
-  pub done-facts : (answer : Pass) (drawing : Drawing) → answer ≡ pass-is.Done drawing → (lines′ links′ : List ℕ) → Passed values threshold dx dy lines links answer lines′ links′ → Done drawing lines′ links′
+  pub done-facts : (answer : Pass) (drawing : Drawing) → answer ≡ pass-is.Done drawing → (lines′ links′ : List ℕ) → Passed values level dx dy lines links answer lines′ links′ → Done drawing lines′ links′
   unfolding passed passTable
   done-facts answer drawing is lines′ links′ k = by verdict refl (sym is ∙ k .answers) (k .lines-are) (k .links-are)
     where
@@ -100,7 +101,7 @@ module _ (values : List Float) (threshold : Float) (dx dy : ℕ) (lines links : 
           }
 
   -- what is known after a refused pass
-  pub refused-facts : (answer : Pass) (why : Refusal) → answer ≡ pass-is.Refused why → (lines′ links′ : List ℕ) → Passed values threshold dx dy lines links answer lines′ links′ → (verdict ≡ refused why) × (lines′ ≡ lines) × (links′ ≡ links)
+  pub refused-facts : (answer : Pass) (why : Refusal) → answer ≡ pass-is.Refused why → (lines′ links′ : List ℕ) → Passed values level dx dy lines links answer lines′ links′ → (verdict ≡ refused why) × (lines′ ≡ lines) × (links′ ≡ links)
   unfolding passed passTable
   refused-facts answer why is lines′ links′ k = by verdict refl (sym is ∙ k .answers) (k .lines-are) (k .links-are)
     where
@@ -113,17 +114,17 @@ module _ (values : List Float) (threshold : Float) (dx dy : ℕ) (lines links : 
 
   -- what a build answers and leaves, where these are the words of its points
   pub record BuiltAs {Word : Type 0} (words points : List Word) (directory : List ℕ) (answer : Built) (lines′ links′ : List ℕ) (points′ : List Word) (directory′ : List ℕ) : Type 0 where
-    pub answers : answer ≡ built (onEntry values threshold dx dy lines links) (onOutputs values threshold dx dy points directory) (above values threshold dx dy) dx dy
-    pub lines-are : lines′ ≡ workAfter (onEntry values threshold dx dy lines links) (openWords dx (peak (above values threshold dx dy) dx dy)) lines
-    pub links-are : links′ ≡ workAfter (onEntry values threshold dx dy lines links) (linkWords (segmentCount (above values threshold dx dy) dx dy)) links
-    pub points-are : points′ ≡ outputAfter (onEntry values threshold dx dy lines links) (onOutputs values threshold dx dy points directory) words points
-    pub directory-is : directory′ ≡ outputAfter (onEntry values threshold dx dy lines links) (onOutputs values threshold dx dy points directory) (bareRecords 0 0 (ringsOf (above values threshold dx dy) dx dy)) directory
+    pub answers : answer ≡ built (onEntry values level dx dy lines links) (onOutputs values level dx dy points directory) (above values level dx dy) dx dy
+    pub lines-are : lines′ ≡ workAfter (onEntry values level dx dy lines links) (openWords dx (peak (above values level dx dy) dx dy)) lines
+    pub links-are : links′ ≡ workAfter (onEntry values level dx dy lines links) (linkWords (segmentCount (above values level dx dy) dx dy)) links
+    pub points-are : points′ ≡ outputAfter (onEntry values level dx dy lines links) (onOutputs values level dx dy points directory) words points
+    pub directory-is : directory′ ≡ outputAfter (onEntry values level dx dy lines links) (onOutputs values level dx dy points directory) (bareRecords 0 0 (ringsOf (above values level dx dy) dx dy)) directory
 
   rings-built : {points directory : List ℕ} {answer : Built} {lines′ links′ points′ directory′ : List ℕ} → BuiltAs (packedPoints (ringsOf A dx dy)) points directory answer lines′ links′ points′ directory′
-      → RingsBuilt values threshold dx dy lines links points directory answer lines′ links′ points′ directory′
+      → RingsBuilt values level dx dy lines links points directory answer lines′ links′ points′ directory′
   rings-built b = record { answers = b .answers; lines-are = b .lines-are; links-are = b .links-are; points-are = b .points-are; directory-is = b .directory-is }
 
-  pub build-refused : (answer : Pass) (why : Refusal) → answer ≡ pass-is.Refused why → (lines′ links′ : List ℕ) → Passed values threshold dx dy lines links answer lines′ links′ → {Word : Type 0} (words points : List Word) (directory : List ℕ)
+  pub build-refused : (answer : Pass) (why : Refusal) → answer ≡ pass-is.Refused why → (lines′ links′ : List ℕ) → Passed values level dx dy lines links answer lines′ links′ → {Word : Type 0} (words points : List Word) (directory : List ℕ)
       → BuiltAs words points directory (built-is.Refused why) lines′ links′ points directory
   unfolding built workAfter outputAfter
   build-refused answer why is lines′ links′ k words points directory =
@@ -136,11 +137,11 @@ module _ (values : List Float) (threshold : Float) (dx dy : ℕ) (lines links : 
         directory-is = ap (λ (v : Verdict). outputAfter v (outputVerdict A dx dy (length points) (length directory)) (bareRecords 0 0 (ringsOf A dx dy)) directory) (sym (facts .0));
       }
 
-  pub rings-refused : (answer : Pass) (why : Refusal) → answer ≡ pass-is.Refused why → (lines′ links′ : List ℕ) → Passed values threshold dx dy lines links answer lines′ links′ → (points directory : List ℕ)
-      → RingsBuilt values threshold dx dy lines links points directory (built-is.Refused why) lines′ links′ points directory
+  pub rings-refused : (answer : Pass) (why : Refusal) → answer ≡ pass-is.Refused why → (lines′ links′ : List ℕ) → Passed values level dx dy lines links answer lines′ links′ → (points directory : List ℕ)
+      → RingsBuilt values level dx dy lines links points directory (built-is.Refused why) lines′ links′ points directory
   rings-refused answer why is lines′ links′ k points directory = rings-built (build-refused answer why is lines′ links′ k (packedPoints (ringsOf A dx dy)) points directory)
 
-  pub report-refused : (answer : Pass) (why : Refusal) → answer ≡ pass-is.Refused why → (lines′ links′ : List ℕ) → Passed values threshold dx dy lines links answer lines′ links′ → SecondReported values threshold dx dy lines links (report-is.Refused why) lines′ links′
+  pub report-refused : (answer : Pass) (why : Refusal) → answer ≡ pass-is.Refused why → (lines′ links′ : List ℕ) → Passed values level dx dy lines links answer lines′ links′ → SecondReported values level dx dy lines links (report-is.Refused why) lines′ links′
   unfolding reported workAfter
   report-refused answer why is lines′ links′ k =
       let facts = refused-facts answer why is lines′ links′ k in
@@ -151,22 +152,22 @@ module _ (values : List Float) (threshold : Float) (dx dy : ℕ) (lines links : 
       }
 
   module _ (drawing : Drawing) (lines′ links′ : List ℕ) (done : Done drawing lines′ links′) where
-    out-there : Outside (terrain (atLeast threshold) values dx dy) dx dy
-    out-there = outside values threshold dx dy (done .sized)
+    out-there : Outside (terrain (aboveAt level) values dx dy) dx dy
+    out-there = outside values level dx dy (done .sized)
 
     lines-zeroed : cleared lines′ (openWords dx (peak A dx dy)) ≡ zeroed (openWords dx (peak A dx dy)) lines
     lines-zeroed =
-        let kept = lines-kept A out-there lines links (done .lines-fit) (done .links-fit) (segments-fit values threshold dx dy (done .sized)) (peak-fits values threshold dx dy (done .sized)) in
+        let kept = lines-kept A out-there lines links (done .lines-fit) (done .links-fit) (segments-fit values level dx dy (done .sized)) (peak-fits values level dx dy (done .sized)) in
         ap (λ (l : List ℕ). cleared l (openWords dx (peak A dx dy))) (done .lines-are)
         ∙ unfold stitchedTables in cleared-is-zeroed (openWords dx (peak A dx dy)) lines (stitched .lines) (kept .0) (kept .1)
 
     links-zeroed : cleared links′ (linkWords (segmentCount A dx dy)) ≡ zeroed (linkWords (segmentCount A dx dy)) links
     links-zeroed =
-        let kept = links-kept A out-there lines links (done .lines-fit) (done .links-fit) (segments-fit values threshold dx dy (done .sized)) (peak-fits values threshold dx dy (done .sized)) in
+        let kept = links-kept A out-there lines links (done .lines-fit) (done .links-fit) (segments-fit values level dx dy (done .sized)) (peak-fits values level dx dy (done .sized)) in
         ap (λ (l : List ℕ). cleared l (linkWords (segmentCount A dx dy))) (done .links-are)
         ∙ unfold stitchedTables in cleared-is-zeroed (linkWords (segmentCount A dx dy)) links (stitched .links) (kept .0) (kept .1)
 
-    pub reported-done : SecondReported values threshold dx dy lines links
+    pub reported-done : SecondReported values level dx dy lines links
         (report-is.Room (drawing .segments) (drawing .rings) (drawing .peak) (drawing .segments + drawing .rings))
         (cleared lines′ (openWords dx (drawing .peak))) (cleared links′ (linkWords (drawing .segments)))
     unfolding reported workAfter pointCount
@@ -186,14 +187,14 @@ module _ (values : List Float) (threshold : Float) (dx dy : ℕ) (lines links : 
     points-walked : walkPoints dx (stitched .links) (stitched .progress .head) (stitched .progress .head) (segmentCount A dx dy) ≡ packedPoints (ringsOf A dx dy)
     unfolding stitchedTables
     points-walked =
-        points-found A out-there lines links (done .lines-fit) (done .links-fit) (segments-fit values threshold dx dy (done .sized)) (peak-fits values threshold dx dy (done .sized))
-        (columns-fit values threshold dx dy (done .sized)) (rows-fit values threshold dx dy (done .sized))
+        points-found A out-there lines links (done .lines-fit) (done .links-fit) (segments-fit values level dx dy (done .sized)) (peak-fits values level dx dy (done .sized))
+        (columns-fit values level dx dy (done .sized)) (rows-fit values level dx dy (done .sized))
 
     records-walked : walkRecords (stitched .links) 0 0 (stitched .progress .head) (segmentCount A dx dy) ≡ bareRecords 0 0 (ringsOf A dx dy)
     unfolding stitchedTables
     records-walked =
-        records-found A out-there lines links (done .lines-fit) (done .links-fit) (segments-fit values threshold dx dy (done .sized)) (peak-fits values threshold dx dy (done .sized))
-        (points-fit values threshold dx dy (done .sized))
+        records-found A out-there lines links (done .lines-fit) (done .links-fit) (segments-fit values level dx dy (done .sized)) (peak-fits values level dx dy (done .sized))
+        (points-fit values level dx dy (done .sized))
 
     -- packing by any words of a link's point, which the walk along the links lays out as these words that fill their room
     module _ {Word : Type 0} (of-link : List ℕ → ℕ → List Word) (words : List Word)
@@ -253,7 +254,7 @@ module _ (values : List Float) (threshold : Float) (dx dy : ℕ) (lines links : 
           }
 
     pub built-done : (points directory : List ℕ) (answer : Built) (points′ directory′ : List ℕ) → Packed drawing dx links′ points directory answer points′ directory′
-        → RingsBuilt values threshold dx dy lines links points directory answer
+        → RingsBuilt values level dx dy lines links points directory answer
         (cleared lines′ (openWords dx (drawing .peak))) (cleared links′ (linkWords (drawing .segments))) points′ directory′
     built-done points directory answer points′ directory′ k =
         rings-built (build-done (walk.pointWords dx) (packedPoints (ringsOf A dx dy)) points-walked (packed-points-fill-their-room A out-there) points directory answer points′ directory′ (of-packed k))

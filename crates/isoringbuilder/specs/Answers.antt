@@ -5,7 +5,8 @@ use mathlib.Core.List.{List}
 use Prim.Native.Nat.{ℕ, _+_}
 use lib.Ieee.{Float}
 use lib.ListN.{length}
-use Rattle.scope.specs.Terrain.{Sheet, atLeast, terrain}
+use Rattle.scope.specs.declared.Level.{Level}
+use Rattle.scope.specs.Terrain.{Sheet, aboveAt, terrain}
 use Rattle.scope.specs.Drawing.{segmentCount, ringCount, ringsOf, peak}
 use Rattle.scope.specs.Room.{openWords, linkWords, pointCount}
 use Rattle.scope.specs.Tables.{zeroed, written, packedPoints, bareRecords}
@@ -37,26 +38,26 @@ built (refused why) verdict A dx dy = built-is.Refused why
 built passes (refused why) A dx dy = built-is.Refused why
 built passes passes A dx dy = built-is.Rings (ringCount A dx dy)
 
--- the sheet of a grid at a threshold, and the two verdicts on what is lent
-abbrev pub above : List Float → Float → ℕ → ℕ → Sheet
-above values threshold dx dy = terrain (atLeast threshold) values dx dy
+-- the sheet of a grid at a level, and the two verdicts on what is lent
+abbrev pub above : List Float → Level → ℕ → ℕ → Sheet
+above values level dx dy = terrain (aboveAt level) values dx dy
 
-abbrev pub onEntry : List Float → Float → ℕ → ℕ → List ℕ → List ℕ → Verdict
-onEntry values threshold dx dy lines links = workVerdict (terrain (atLeast threshold) values dx dy) (length values) dx dy (length lines) (length links)
+abbrev pub onEntry : List Float → Level → ℕ → ℕ → List ℕ → List ℕ → Verdict
+onEntry values level dx dy lines links = workVerdict (terrain (aboveAt level) values dx dy) (length values) dx dy (length lines) (length links)
 
-abbrev pub onOutputs : {Word : Type 0} → List Float → Float → ℕ → ℕ → List Word → List ℕ → Verdict
-onOutputs values threshold dx dy points directory = outputVerdict (terrain (atLeast threshold) values dx dy) dx dy (length points) (length directory)
+abbrev pub onOutputs : {Word : Type 0} → List Float → Level → ℕ → ℕ → List Word → List ℕ → Verdict
+onOutputs values level dx dy points directory = outputVerdict (terrain (aboveAt level) values dx dy) dx dy (length points) (length directory)
 
 -- what the second report answers and leaves, on every input
-pub record SecondReported (values : List Float) (threshold : Float) (dx dy : ℕ) (lines links : List ℕ) (answer : SecondReport) (lines′ links′ : List ℕ) : Type 0 where
-  pub answers : answer ≡ reported (onEntry values threshold dx dy lines links) (above values threshold dx dy) dx dy
-  pub lines-are : lines′ ≡ workAfter (onEntry values threshold dx dy lines links) (openWords dx (peak (above values threshold dx dy) dx dy)) lines
-  pub links-are : links′ ≡ workAfter (onEntry values threshold dx dy lines links) (linkWords (segmentCount (above values threshold dx dy) dx dy)) links
+pub record SecondReported (values : List Float) (level : Level) (dx dy : ℕ) (lines links : List ℕ) (answer : SecondReport) (lines′ links′ : List ℕ) : Type 0 where
+  pub answers : answer ≡ reported (onEntry values level dx dy lines links) (above values level dx dy) dx dy
+  pub lines-are : lines′ ≡ workAfter (onEntry values level dx dy lines links) (openWords dx (peak (above values level dx dy) dx dy)) lines
+  pub links-are : links′ ≡ workAfter (onEntry values level dx dy lines links) (linkWords (segmentCount (above values level dx dy) dx dy)) links
 
 -- what contour_rings answers and leaves, on every input
-pub record RingsBuilt (values : List Float) (threshold : Float) (dx dy : ℕ) (lines links points directory : List ℕ) (answer : Built) (lines′ links′ points′ directory′ : List ℕ) : Type 0 where
-  pub answers : answer ≡ built (onEntry values threshold dx dy lines links) (onOutputs values threshold dx dy points directory) (above values threshold dx dy) dx dy
-  pub lines-are : lines′ ≡ workAfter (onEntry values threshold dx dy lines links) (openWords dx (peak (above values threshold dx dy) dx dy)) lines
-  pub links-are : links′ ≡ workAfter (onEntry values threshold dx dy lines links) (linkWords (segmentCount (above values threshold dx dy) dx dy)) links
-  pub points-are : points′ ≡ outputAfter (onEntry values threshold dx dy lines links) (onOutputs values threshold dx dy points directory) (packedPoints (ringsOf (above values threshold dx dy) dx dy)) points
-  pub directory-is : directory′ ≡ outputAfter (onEntry values threshold dx dy lines links) (onOutputs values threshold dx dy points directory) (bareRecords 0 0 (ringsOf (above values threshold dx dy) dx dy)) directory
+pub record RingsBuilt (values : List Float) (level : Level) (dx dy : ℕ) (lines links points directory : List ℕ) (answer : Built) (lines′ links′ points′ directory′ : List ℕ) : Type 0 where
+  pub answers : answer ≡ built (onEntry values level dx dy lines links) (onOutputs values level dx dy points directory) (above values level dx dy) dx dy
+  pub lines-are : lines′ ≡ workAfter (onEntry values level dx dy lines links) (openWords dx (peak (above values level dx dy) dx dy)) lines
+  pub links-are : links′ ≡ workAfter (onEntry values level dx dy lines links) (linkWords (segmentCount (above values level dx dy) dx dy)) links
+  pub points-are : points′ ≡ outputAfter (onEntry values level dx dy lines links) (onOutputs values level dx dy points directory) (packedPoints (ringsOf (above values level dx dy) dx dy)) points
+  pub directory-is : directory′ ≡ outputAfter (onEntry values level dx dy lines links) (onOutputs values level dx dy points directory) (bareRecords 0 0 (ringsOf (above values level dx dy) dx dy)) directory

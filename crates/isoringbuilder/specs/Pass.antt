@@ -5,6 +5,7 @@ use Prim.Native.Nat.{ℕ, suc}
 use lib.Ieee.{Float}
 use lib.ListN.{length}
 use lib.Seq.{sets}
+use Rattle.scope.specs.declared.Level.{Level}
 use Rattle.scope.specs.Terrain.{Sheet}
 use Rattle.scope.specs.Drawing.{segmentCount, ringCount, peak}
 use Rattle.machine.specs.Machine.{Tables, runAfter, runOver}
@@ -41,7 +42,7 @@ pub record Packed (drawing : Drawing) (dx : ℕ) (links points directory : List 
   pub points-are : points′ ≡ passTable (roomVerdict (drawing .segments) (drawing .rings) (length points) (length directory)) points (sets points 0 (walkPoints dx links (drawing .head) (drawing .head) (drawing .segments)))
   pub directory-is : directory′ ≡ passTable (roomVerdict (drawing .segments) (drawing .rings) (length points) (length directory)) directory (sets directory 0 (walkRecords links 0 0 (drawing .head) (drawing .segments)))
 
-pub record Passed (values : List Float) (threshold : Float) (dx dy : ℕ) (lines links : List ℕ) (answer : Pass) (lines′ links′ : List ℕ) : Type 0 where
-  pub answers : answer ≡ passed (onEntry values threshold dx dy lines links) (above values threshold dx dy) dx dy (stitchedTables (above values threshold dx dy) dx dy lines links)
-  pub lines-are : lines′ ≡ passTable (onEntry values threshold dx dy lines links) lines (stitchedTables (above values threshold dx dy) dx dy lines links .lines)
-  pub links-are : links′ ≡ passTable (onEntry values threshold dx dy lines links) links (stitchedTables (above values threshold dx dy) dx dy lines links .links)
+pub record Passed (values : List Float) (level : Level) (dx dy : ℕ) (lines links : List ℕ) (answer : Pass) (lines′ links′ : List ℕ) : Type 0 where
+  pub answers : answer ≡ passed (onEntry values level dx dy lines links) (above values level dx dy) dx dy (stitchedTables (above values level dx dy) dx dy lines links)
+  pub lines-are : lines′ ≡ passTable (onEntry values level dx dy lines links) lines (stitchedTables (above values level dx dy) dx dy lines links .lines)
+  pub links-are : links′ ≡ passTable (onEntry values level dx dy lines links) links (stitchedTables (above values level dx dy) dx dy lines links .links)

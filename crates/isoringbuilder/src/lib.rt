@@ -1,6 +1,5 @@
-// The rings of a grid at one threshold, over tables that the caller lends: the second report, which gives all room, and contour_rings, which gives every
+// The rings of a grid at one level, over tables that the caller lends: the second report, which gives all room, and contour_rings, which gives every
 // ring or none. Neither asks anything of the caller: bad sides, lengths or room draw the lowest refusal that applies.
-use cells::Level;
 use error::Refusal;
 use grid::GridFit;
 use grid::grid_fit;
@@ -9,6 +8,7 @@ use packing::clear;
 use packing::write_rings;
 use scan::TILES;
 use scan::scan;
+use scope::Level;
 use stitching::stitch;
 ghost use mathlib.Core.Path.{_≡_};
 ghost use Prim.Native.Nat.{_≤_};
@@ -87,7 +87,7 @@ fn pass_over(
     links: &mut [u32],
 ) -> Pass
     requires { ⌜ gridFit (length (now values)) dx dy ≡ GridFit.Fits ⌝ }
-    ensures { λ r. ⌜ Passed (now (values .entry)) (level .threshold) dx dy (now (lines .entry)) (now (links .entry)) r (now (lines .exit)) (now (links .exit)) ⌝ }
+    ensures { λ r. ⌜ Passed (now (values .entry)) level dx dy (now (lines .entry)) (now (links .entry)) r (now (lines .exit)) (now (links .exit)) ⌝ }
 {
     let mut marks = [0u8; TILES];
     let counts = scan(values, level, dx, dy, &mut marks);
@@ -119,7 +119,7 @@ pub fn run_pass(
     lines: &mut [u32],
     links: &mut [u32],
 ) -> Pass
-    ensures { λ r. ⌜ Passed (now (values .entry)) (level .threshold) dx dy (now (lines .entry)) (now (links .entry)) r (now (lines .exit)) (now (links .exit)) ⌝ }
+    ensures { λ r. ⌜ Passed (now (values .entry)) level dx dy (now (lines .entry)) (now (links .entry)) r (now (lines .exit)) (now (links .exit)) ⌝ }
 {
     match grid_fit(values.len(), dx, dy) {
         GridFit::Refused(refusal) => Pass::Refused(refusal),
@@ -127,7 +127,7 @@ pub fn run_pass(
     }
 }
 
-// All room for the rings of a grid at one threshold. On success the needed words of both work tables are zero; a refusal changes nothing.
+// All room for the rings of a grid at one level. On success the needed words of both work tables are zero; a refusal changes nothing.
 pub fn second_report(
     values: &[f64],
     level: Level,
@@ -136,7 +136,7 @@ pub fn second_report(
     lines: &mut [u32],
     links: &mut [u32],
 ) -> SecondReport
-    ensures { λ r. ⌜ SecondReported (now (values .entry)) (level .threshold) dx dy (now (lines .entry)) (now (links .entry)) r (now (lines .exit)) (now (links .exit)) ⌝ }
+    ensures { λ r. ⌜ SecondReported (now (values .entry)) level dx dy (now (lines .entry)) (now (links .entry)) r (now (lines .exit)) (now (links .exit)) ⌝ }
 {
     match run_pass(values, level, dx, dy, lines, links) {
         Pass::Refused(refusal) => SecondReport::Refused(refusal),
@@ -192,7 +192,7 @@ pub fn pack(
     answer
 }
 
-// Every ring of a grid at one threshold, in the crate's order, vertex order and first vertex, as bare rings: points packed by ring number, and a directory
+// Every ring of a grid at one level, in the crate's order, vertex order and first vertex, as bare rings: points packed by ring number, and a directory
 // record a ring. On success, and where points or directory are short, the needed words of both work tables are zero; any refusal spares the outputs.
 pub fn contour_rings(
     values: &[f64],
@@ -204,7 +204,7 @@ pub fn contour_rings(
     points: &mut [u16],
     directory: &mut [u32],
 ) -> Built
-    ensures { λ r. ⌜ RingsBuilt (now (values .entry)) (level .threshold) dx dy (now (lines .entry)) (now (links .entry)) (now (points .entry)) (now (directory .entry)) r
+    ensures { λ r. ⌜ RingsBuilt (now (values .entry)) level dx dy (now (lines .entry)) (now (links .entry)) (now (points .entry)) (now (directory .entry)) r
         (now (lines .exit)) (now (links .exit)) (now (points .exit)) (now (directory .exit)) ⌝ }
 {
     match run_pass(values, level, dx, dy, lines, links) {

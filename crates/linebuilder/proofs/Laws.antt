@@ -6,7 +6,8 @@ use mathlib.Core.List.{List}
 use Prim.Native.Nat.{ℕ}
 use lib.Ieee.{Float}
 use Rattle.error.specs.declared.Refusal.{Refusal}
-use Rattle.scope.specs.Terrain.{Sheet, atLeast, terrain}
+use Rattle.scope.specs.declared.Level.{Level}
+use Rattle.scope.specs.Terrain.{Sheet, aboveAt, terrain}
 use Rattle.scope.specs.Drawing.{segmentCount, ringsOf}
 use Rattle.scope.specs.Room.{openWords, linkWords}
 use Rattle.scope.specs.Smoothing.{Placing}
@@ -35,36 +36,36 @@ module _ {d : Drawing} {values : List Float} {threshold : Float} {dx dy : ℕ} {
   of-plotted : Plotted d values threshold dx dy smooth q links points directory answer points′ directory′ → PackedAs (vertexAt smooth values threshold dx dy q) d links points directory answer points′ directory′
   of-plotted k = record { answers = k .answers; points-are = k .points-are; directory-is = k .directory-is }
 
-module _ (values : List Float) (threshold : Float) (dx dy : ℕ) (lines links : List ℕ) (smooth : Bool) (q : Placing) where
+module _ (values : List Float) (level : Level) (dx dy : ℕ) (lines links : List ℕ) (smooth : Bool) (q : Placing) where
   abbrev A : Sheet
-  A = terrain (atLeast threshold) values dx dy
+  A = terrain (aboveAt level) values dx dy
 
   abbrev stitched : Tables
-  stitched = stitchedTables (terrain (atLeast threshold) values dx dy) dx dy lines links
+  stitched = stitchedTables (terrain (aboveAt level) values dx dy) dx dy lines links
 
   lines-built : {points : List Float} {directory : List ℕ} {answer : Built} {lines′ links′ : List ℕ} {points′ : List Float} {directory′ : List ℕ}
-      → BuiltAs values threshold dx dy lines links (linePoints smooth values threshold dx dy q (ringsOf A dx dy)) points directory answer lines′ links′ points′ directory′
-      → LinesBuilt values threshold dx dy smooth q lines links points directory answer lines′ links′ points′ directory′
+      → BuiltAs values level dx dy lines links (linePoints smooth values (level .threshold) dx dy q (ringsOf A dx dy)) points directory answer lines′ links′ points′ directory′
+      → LinesBuilt values level dx dy smooth q lines links points directory answer lines′ links′ points′ directory′
   lines-built b = record { answers = b .answers; lines-are = b .lines-are; links-are = b .links-are; points-are = b .points-are; directory-is = b .directory-is }
 
   -- a refused pass
-  pub lines-refused : (answer : Pass) (why : Refusal) → answer ≡ pass-is.Refused why → (lines′ links′ : List ℕ) → Passed values threshold dx dy lines links answer lines′ links′ → (points : List Float) (directory : List ℕ)
-      → LinesBuilt values threshold dx dy smooth q lines links points directory (built-is.Refused why) lines′ links′ points directory
+  pub lines-refused : (answer : Pass) (why : Refusal) → answer ≡ pass-is.Refused why → (lines′ links′ : List ℕ) → Passed values level dx dy lines links answer lines′ links′ → (points : List Float) (directory : List ℕ)
+      → LinesBuilt values level dx dy smooth q lines links points directory (built-is.Refused why) lines′ links′ points directory
   lines-refused answer why is lines′ links′ k points directory =
-      lines-built (build-refused values threshold dx dy lines links answer why is lines′ links′ k (linePoints smooth values threshold dx dy q (ringsOf A dx dy)) points directory)
+      lines-built (build-refused values level dx dy lines links answer why is lines′ links′ k (linePoints smooth values (level .threshold) dx dy q (ringsOf A dx dy)) points directory)
 
   -- a pass that was done
-  module _ (drawing : Drawing) (lines′ links′ : List ℕ) (done : Done values threshold dx dy lines links drawing lines′ links′) where
-    vertices-walked : walkWords (vertexAt smooth values threshold dx dy q (stitched .links)) (stitched .links) (stitched .progress .head) (stitched .progress .head) (segmentCount A dx dy) ≡ linePoints smooth values threshold dx dy q (ringsOf A dx dy)
+  module _ (drawing : Drawing) (lines′ links′ : List ℕ) (done : Done values level dx dy lines links drawing lines′ links′) where
+    vertices-walked : walkWords (vertexAt smooth values (level .threshold) dx dy q (stitched .links)) (stitched .links) (stitched .progress .head) (stitched .progress .head) (segmentCount A dx dy) ≡ linePoints smooth values (level .threshold) dx dy q (ringsOf A dx dy)
     unfolding stitchedTables
     vertices-walked =
         let sized = done .sized in
-        line-points-found A (outside values threshold dx dy sized) lines links (done .lines-fit) (done .links-fit) (segments-fit values threshold dx dy sized) (peak-fits values threshold dx dy sized) smooth values threshold q
+        line-points-found A (outside values level dx dy sized) lines links (done .lines-fit) (done .links-fit) (segments-fit values level dx dy sized) (peak-fits values level dx dy sized) smooth values (level .threshold) q
 
-    pub lines-done : (points : List Float) (directory : List ℕ) (answer : Built) (points′ : List Float) (directory′ : List ℕ) → Plotted drawing values threshold dx dy smooth q links′ points directory answer points′ directory′
-        → LinesBuilt values threshold dx dy smooth q lines links points directory answer
+    pub lines-done : (points : List Float) (directory : List ℕ) (answer : Built) (points′ : List Float) (directory′ : List ℕ) → Plotted drawing values (level .threshold) dx dy smooth q links′ points directory answer points′ directory′
+        → LinesBuilt values level dx dy smooth q lines links points directory answer
         (cleared lines′ (openWords dx (drawing .peak))) (cleared links′ (linkWords (drawing .segments))) points′ directory′
     lines-done points directory answer points′ directory′ k =
         lines-built
-        (build-done values threshold dx dy lines links drawing lines′ links′ done (vertexAt smooth values threshold dx dy q) (linePoints smooth values threshold dx dy q (ringsOf A dx dy)) vertices-walked
-        (line-points-fill-their-room A (outside values threshold dx dy (done .sized)) smooth values threshold q) points directory answer points′ directory′ (of-plotted k))
+        (build-done values level dx dy lines links drawing lines′ links′ done (vertexAt smooth values (level .threshold) dx dy q) (linePoints smooth values (level .threshold) dx dy q (ringsOf A dx dy)) vertices-walked
+        (line-points-fill-their-room A (outside values level dx dy (done .sized)) smooth values (level .threshold) q) points directory answer points′ directory′ (of-plotted k))

@@ -6,6 +6,7 @@ use Prim.Native.Nat.{ℕ}
 use lib.Ieee.{Float}
 use lib.ListN.{length}
 use lib.Seq.{sets}
+use Rattle.scope.specs.declared.Level.{Level}
 use Rattle.scope.specs.Drawing.{segmentCount, ringsOf, peak}
 use Rattle.scope.specs.Room.{openWords, linkWords}
 use Rattle.scope.specs.Smoothing.{Placing}
@@ -26,9 +27,9 @@ pub record Plotted (drawing : Drawing) (values : List Float) (threshold : Float)
   pub directory-is : directory′ ≡ passTable (roomVerdict (drawing .segments) (drawing .rings) (length points) (length directory)) directory (sets directory 0 (walkRecords links 0 0 (drawing .head) (drawing .segments)))
 
 -- what contour_lines answers and leaves, on every input
-pub record LinesBuilt (values : List Float) (threshold : Float) (dx dy : ℕ) (smooth : Bool) (q : Placing) (lines links : List ℕ) (points : List Float) (directory : List ℕ) (answer : Built) (lines′ links′ : List ℕ) (points′ : List Float) (directory′ : List ℕ) : Type 0 where
-  pub answers : answer ≡ built (onEntry values threshold dx dy lines links) (onOutputs values threshold dx dy points directory) (above values threshold dx dy) dx dy
-  pub lines-are : lines′ ≡ workAfter (onEntry values threshold dx dy lines links) (openWords dx (peak (above values threshold dx dy) dx dy)) lines
-  pub links-are : links′ ≡ workAfter (onEntry values threshold dx dy lines links) (linkWords (segmentCount (above values threshold dx dy) dx dy)) links
-  pub points-are : points′ ≡ outputAfter (onEntry values threshold dx dy lines links) (onOutputs values threshold dx dy points directory) (linePoints smooth values threshold dx dy q (ringsOf (above values threshold dx dy) dx dy)) points
-  pub directory-is : directory′ ≡ outputAfter (onEntry values threshold dx dy lines links) (onOutputs values threshold dx dy points directory) (bareRecords 0 0 (ringsOf (above values threshold dx dy) dx dy)) directory
+pub record LinesBuilt (values : List Float) (level : Level) (dx dy : ℕ) (smooth : Bool) (q : Placing) (lines links : List ℕ) (points : List Float) (directory : List ℕ) (answer : Built) (lines′ links′ : List ℕ) (points′ : List Float) (directory′ : List ℕ) : Type 0 where
+  pub answers : answer ≡ built (onEntry values level dx dy lines links) (onOutputs values level dx dy points directory) (above values level dx dy) dx dy
+  pub lines-are : lines′ ≡ workAfter (onEntry values level dx dy lines links) (openWords dx (peak (above values level dx dy) dx dy)) lines
+  pub links-are : links′ ≡ workAfter (onEntry values level dx dy lines links) (linkWords (segmentCount (above values level dx dy) dx dy)) links
+  pub points-are : points′ ≡ outputAfter (onEntry values level dx dy lines links) (onOutputs values level dx dy points directory) (linePoints smooth values (level .threshold) dx dy q (ringsOf (above values level dx dy) dx dy)) points
+  pub directory-is : directory′ ≡ outputAfter (onEntry values level dx dy lines links) (onOutputs values level dx dy points directory) (bareRecords 0 0 (ringsOf (above values level dx dy) dx dy)) directory

@@ -1,5 +1,4 @@
-// The lines of a grid at one threshold, smoothed and placed, over tables that the caller lends: every line or none. Nothing is asked of the caller.
-use cells::Level;
+// The lines of a grid at one level, smoothed and placed, over tables that the caller lends: every line or none. Nothing is asked of the caller.
 use isoringbuilder::Built;
 use isoringbuilder::Drawing;
 use isoringbuilder::Pass;
@@ -10,6 +9,7 @@ use isoringbuilder::run_pass;
 use limits::RECORD_STRIDE;
 use packing::clear;
 use plotting::write_lines;
+use scope::Level;
 use smoothing::Placement;
 ghost use Prim.Native.Nat.{_+_, _*_, _^_, _<_};
 ghost use Rattle.smoothing.specs.Values.{placingOf};
@@ -56,7 +56,7 @@ fn plot(
     answer
 }
 
-// Every ring of a grid at one threshold as a line, in the crate's order, vertex order and first vertex: points packed by ring number, smoothed where that is
+// Every ring of a grid at one level as a line, in the crate's order, vertex order and first vertex: points packed by ring number, smoothed where that is
 // asked, then placed, and a directory record a ring. On success, and where points or directory are short, the needed words of both work tables are zero; any
 // refusal spares the outputs.
 pub fn contour_lines(
@@ -71,7 +71,7 @@ pub fn contour_lines(
     points: &mut [f64],
     directory: &mut [u32],
 ) -> Built
-    ensures { λ r. ⌜ LinesBuilt (now (values .entry)) (level .threshold) dx dy smooth (placingOf placement) (now (lines .entry)) (now (links .entry)) (now (points .entry)) (now (directory .entry)) r
+    ensures { λ r. ⌜ LinesBuilt (now (values .entry)) level dx dy smooth (placingOf placement) (now (lines .entry)) (now (links .entry)) (now (points .entry)) (now (directory .entry)) r
         (now (lines .exit)) (now (links .exit)) (now (points .exit)) (now (directory .exit)) ⌝ }
 {
     match run_pass(values, level, dx, dy, lines, links) {

@@ -1,12 +1,12 @@
 // What a build of lines writes once all rings are closed: the points as f64 and the directory, by one walk along the links. Every function is total: a word
 // past a table's end reads as 0 and is not stored.
-use cells::Level;
 use cells::indexed_point;
 use lent::MARK;
 use lent::word;
 use limits::RECORD_STRIDE;
 use packing::next_link;
 use packing::put_record;
+use scope::Level;
 use smoothing::Placement;
 use smoothing::line_vertex;
 ghost use mathlib.Core.Path.{_≡_};

@@ -1,6 +1,6 @@
 -- What the walks of the builds share. Each takes some parameters in front, and then `lines`, `links`, `points`, `directory` and `records`; it builds over the words,
 -- and copies the records out of them. So but for the parameters in front, and the call that builds, which are an entry's own, the walks are one.
---     level-kind, placement-kind, built-kind       the types of parameters in front, and of the answer
+--     rule-kind, level-kind, placement-kind, built-kind       the types of parameters in front, and of the answer
 --     Frame                    the types of the locals from `lines` on: the five slices, the room for records, the answer, its rings, a pointer and a slice for each slice that is lent on, and whether records were copied
 --     Owned, All               what the parameters own, and the lifetimes' tokens.        Lent, Some      the same of the arguments of the call that builds.        Said        what that call says of the last values.        Final       what is had at exit
 --     builds                   the walk of the body: the entry shows the call that builds, and what follows once the records are copied
@@ -36,8 +36,10 @@ use denote.Slice.{MutSlice, sliceTy, slice-vals, finally}
 use denote.Steps.{only, nothing}
 use denote.Triple.Statement.{Contract, Triple}
 use denote.Triple.Spec.{tripleOf}
-use Rattle.cells.proofs.Level as Level
-use Rattle.cells.proofs.Level.Laws as Level′
+use Rattle.scope.proofs.Rule as Rule
+use Rattle.scope.proofs.Rule.Laws as Rule′
+use Rattle.scope.proofs.Level as Level
+use Rattle.scope.proofs.Level.Laws as Level′
 use Rattle.smoothing.proofs.Placement as Placement
 use Rattle.smoothing.proofs.Placement.Laws as Placement′
 use Rattle.isoringbuilder.specs.declared.Built.{Built}
@@ -59,6 +61,9 @@ use Rattle.records.proofs.rings_in as rings-in
 use Rattle.records.proofs.rings_in.Symbol.{name as #rings-in}
 
 -- ---- the types of parameters in front, and of the answer
+abbrev pub rule-kind : Kind Rule.the-row
+rule-kind = of-enum Rule.the-type Rule′.the-laws tt Rule′.the-copy Rule′.the-plain
+
 abbrev pub level-kind : Kind Level.the-row
 level-kind = of-struct Level.the-type Level′.the-laws Level′.the-copy Level′.the-plain
 

@@ -14,6 +14,8 @@ use lib.Seq.{length-take-le, take-all, drop-at}
 use borrow.Author.Tests.{lt-ltb, ltb-true, ltb-false}
 use Rattle.error.specs.declared.Refusal.{Refusal}
 use Rattle.error.specs.declared.Refusal.the-variants.{PointsShort, DirectoryShort, BadRingSet}
+use Rattle.scope.specs.declared.Rule.{Rule}
+use Rattle.scope.specs.declared.Level.{Level}
 use Rattle.scope.specs.Limits.{recordStride}
 use Rattle.scope.specs.Room.{directoryWords, bandDirectoryWords}
 use Rattle.scope.specs.Smoothing.{Placing}
@@ -172,41 +174,41 @@ module _ {Word : Type 0} {plan : Plan Word} {lines links : List ℕ} {points : L
 
 -- ---- 4. the four builds have these laws
 
-module _ (values : List Float) (threshold : Float) (dx dy : ℕ) where
+module _ (values : List Float) (level : Level) (dx dy : ℕ) where
   module _ (lines links points : List ℕ) where
-    pub rings-form : WordForm (ringsPlan values threshold dx dy) lines links points (λ directory answer lines′ links′ points′ directory′. RingsBuilt values threshold dx dy lines links points directory answer lines′ links′ points′ directory′)
+    pub rings-form : WordForm (ringsPlan values level dx dy) lines links points (λ directory answer lines′ links′ points′ directory′. RingsBuilt values level dx dy lines links points directory answer lines′ links′ points′ directory′)
     rings-form = record {
       need = refl;
-      one = λ directory. one-build values threshold dx dy lines links points directory;
-      exactly = λ directory k. rings-exactly values threshold dx dy lines links points directory k .1;
-      fills = λ directory fits. exact-room values threshold dx dy lines links points directory fits;
+      one = λ directory. one-build values level dx dy lines links points directory;
+      exactly = λ directory k. rings-exactly values level dx dy lines links points directory k .1;
+      fills = λ directory fits. exact-room values level dx dy lines links points directory fits;
     }
 
-    pub contours-form : WordForm (contoursPlan values threshold dx dy) lines links points (λ directory answer lines′ links′ points′ directory′. ContoursBuilt values threshold dx dy lines links points directory answer lines′ links′ points′ directory′)
+    pub contours-form : WordForm (contoursPlan values level dx dy) lines links points (λ directory answer lines′ links′ points′ directory′. ContoursBuilt values level dx dy lines links points directory answer lines′ links′ points′ directory′)
     contours-form = record {
       need = refl;
-      one = λ directory. one-contours values threshold dx dy lines links points directory;
-      exactly = λ directory k. contours-exactly values threshold dx dy lines links points directory k .1;
-      fills = λ directory fits. contours-exact-room values threshold dx dy lines links points directory fits;
+      one = λ directory. one-contours values level dx dy lines links points directory;
+      exactly = λ directory k. contours-exactly values level dx dy lines links points directory k .1;
+      fills = λ directory fits. contours-exact-room values level dx dy lines links points directory fits;
     }
 
   module _ (smooth : Bool) (placing : Placing) (lines links : List ℕ) (points : List Float) where
-    pub lines-form : WordForm (linesPlan values threshold dx dy smooth placing) lines links points (λ directory answer lines′ links′ points′ directory′. LinesBuilt values threshold dx dy smooth placing lines links points directory answer lines′ links′ points′ directory′)
+    pub lines-form : WordForm (linesPlan values level dx dy smooth placing) lines links points (λ directory answer lines′ links′ points′ directory′. LinesBuilt values level dx dy smooth placing lines links points directory answer lines′ links′ points′ directory′)
     lines-form = record {
       need = refl;
-      one = λ directory. one-lines values threshold dx dy smooth placing lines links points directory;
-      exactly = λ directory k. lines-exactly values threshold dx dy smooth placing lines links points directory k .1;
-      fills = λ directory fits. lines-exact-room values threshold dx dy smooth placing lines links points directory fits;
+      one = λ directory. one-lines values level dx dy smooth placing lines links points directory;
+      exactly = λ directory k. lines-exactly values level dx dy smooth placing lines links points directory k .1;
+      fills = λ directory fits. lines-exact-room values level dx dy smooth placing lines links points directory fits;
     }
 
-module _ (values thresholds : List Float) (k dx dy : ℕ) (lines links points : List ℕ) where
-  pub bands-form : WordForm (bandPlan values thresholds k dx dy) lines links points (λ directory answer lines′ links′ points′ directory′. BandBuilt values thresholds k dx dy lines links points directory answer lines′ links′ points′ directory′)
+module _ (values thresholds : List Float) (rule : Rule) (k dx dy : ℕ) (lines links points : List ℕ) where
+  pub bands-form : WordForm (bandPlan values thresholds rule k dx dy) lines links points (λ directory answer lines′ links′ points′ directory′. BandBuilt values thresholds rule k dx dy lines links points directory answer lines′ links′ points′ directory′)
   unfolding bandDirectoryWords
   bands-form = record {
     need = refl;
-    one = λ directory. one-isobands values thresholds k dx dy lines links points directory;
-    exactly = λ directory b. isobands-exactly values thresholds k dx dy lines links points directory b .1;
-    fills = λ directory fits just b. isobands-exact-room values thresholds k dx dy lines links points directory fits just b;
+    one = λ directory. one-isobands values thresholds rule k dx dy lines links points directory;
+    exactly = λ directory b. isobands-exactly values thresholds rule k dx dy lines links points directory b .1;
+    fills = λ directory fits just b. isobands-exact-room values thresholds rule k dx dy lines links points directory fits just b;
   }
 
 -- ---- 5. the readers

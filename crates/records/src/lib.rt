@@ -1,6 +1,5 @@
 // The calls with the directory as a run of records, each holding its fate, beside the directory words that the word form takes: the four builds, and the check,
 // the length and the text of a ring set. Each is the word form over words that are copied out into the records, or in from them, and asks nothing of the caller.
-use cells::Level;
 use contour::contour_lines;
 use contour::contour_rings;
 use contour::contours;
@@ -15,6 +14,8 @@ pub use ringrecord::Fate;
 pub use ringrecord::RingRecord;
 use ringrecord::records_from_words;
 use ringrecord::words_from_records;
+use scope::Level;
+use scope::Rule;
 use smoothing::Placement;
 ghost use mathlib.Core.Path.{_≡_};
 ghost use Prim.Native.Nat.{_≤_};
@@ -61,7 +62,7 @@ fn rings_over(
     directory: &mut [u32],
     room: usize,
 ) -> Built
-    ensures { λ r. ⌜ OverWords (λ directory directory′. RingsBuilt (now (values .entry)) (level .threshold) dx dy (now (lines .entry)) (now (links .entry)) (now (points .entry)) directory r
+    ensures { λ r. ⌜ OverWords (λ directory directory′. RingsBuilt (now (values .entry)) level dx dy (now (lines .entry)) (now (links .entry)) (now (points .entry)) directory r
         (now (lines .exit)) (now (links .exit)) (now (points .exit)) directory′) (ringsIn r) room (now (directory .entry)) (now (directory .exit)) ⌝ }
 {
     let lent = lent_words(directory.len(), room);
@@ -91,7 +92,7 @@ fn lines_over(
     directory: &mut [u32],
     room: usize,
 ) -> Built
-    ensures { λ r. ⌜ OverWords (λ directory directory′. LinesBuilt (now (values .entry)) (level .threshold) dx dy smooth (placingOf placement) (now (lines .entry)) (now (links .entry)) (now (points .entry)) directory r
+    ensures { λ r. ⌜ OverWords (λ directory directory′. LinesBuilt (now (values .entry)) level dx dy smooth (placingOf placement) (now (lines .entry)) (now (links .entry)) (now (points .entry)) directory r
         (now (lines .exit)) (now (links .exit)) (now (points .exit)) directory′) (ringsIn r) room (now (directory .entry)) (now (directory .exit)) ⌝ }
 {
     let lent = lent_words(directory.len(), room);
@@ -121,7 +122,7 @@ fn contours_over(
     directory: &mut [u32],
     room: usize,
 ) -> Built
-    ensures { λ r. ⌜ OverWords (λ directory directory′. ContoursBuilt (now (values .entry)) (level .threshold) dx dy (now (lines .entry)) (now (links .entry)) (now (points .entry)) directory r
+    ensures { λ r. ⌜ OverWords (λ directory directory′. ContoursBuilt (now (values .entry)) level dx dy (now (lines .entry)) (now (links .entry)) (now (points .entry)) directory r
         (now (lines .exit)) (now (links .exit)) (now (points .exit)) directory′) (ringsIn r) room (now (directory .entry)) (now (directory .exit)) ⌝ }
 {
     let lent = lent_words(directory.len(), room);
@@ -141,6 +142,7 @@ fn contours_over(
 fn bands_over(
     values: &[f64],
     thresholds: &[f64],
+    rule: Rule,
     k: usize,
     dx: usize,
     dy: usize,
@@ -150,13 +152,14 @@ fn bands_over(
     directory: &mut [u32],
     room: usize,
 ) -> Built
-    ensures { λ r. ⌜ OverWords (λ directory directory′. BandBuilt (now (values .entry)) (now (thresholds .entry)) k dx dy (now (lines .entry)) (now (links .entry)) (now (points .entry)) directory r
+    ensures { λ r. ⌜ OverWords (λ directory directory′. BandBuilt (now (values .entry)) (now (thresholds .entry)) rule k dx dy (now (lines .entry)) (now (links .entry)) (now (points .entry)) directory r
         (now (lines .exit)) (now (links .exit)) (now (points .exit)) directory′) (ringsIn r) room (now (directory .entry)) (now (directory .exit)) ⌝ }
 {
     let lent = lent_words(directory.len(), room);
     isobands(
         values,
         thresholds,
+        rule,
         k,
         dx,
         dy,
@@ -180,7 +183,7 @@ pub fn ring_records(
     directory: &mut [u32],
     records: &mut [RingRecord],
 ) -> Built
-    ensures { λ r. ⌜ OverRecords (λ directory directory′. RingsBuilt (now (values .entry)) (level .threshold) dx dy (now (lines .entry)) (now (links .entry)) (now (points .entry)) directory r
+    ensures { λ r. ⌜ OverRecords (λ directory directory′. RingsBuilt (now (values .entry)) level dx dy (now (lines .entry)) (now (links .entry)) (now (points .entry)) directory r
         (now (lines .exit)) (now (links .exit)) (now (points .exit)) directory′) (ringsIn r) (now (directory .entry)) (now (directory .exit)) (now (records .entry)) (now (records .exit)) ⌝ }
 {
     let room = records.len();
@@ -204,7 +207,7 @@ pub fn line_records(
     directory: &mut [u32],
     records: &mut [RingRecord],
 ) -> Built
-    ensures { λ r. ⌜ OverRecords (λ directory directory′. LinesBuilt (now (values .entry)) (level .threshold) dx dy smooth (placingOf placement) (now (lines .entry)) (now (links .entry)) (now (points .entry)) directory r
+    ensures { λ r. ⌜ OverRecords (λ directory directory′. LinesBuilt (now (values .entry)) level dx dy smooth (placingOf placement) (now (lines .entry)) (now (links .entry)) (now (points .entry)) directory r
         (now (lines .exit)) (now (links .exit)) (now (points .exit)) directory′) (ringsIn r) (now (directory .entry)) (now (directory .exit)) (now (records .entry)) (now (records .exit)) ⌝ }
 {
     let room = records.len();
@@ -238,7 +241,7 @@ pub fn contour_records(
     directory: &mut [u32],
     records: &mut [RingRecord],
 ) -> Built
-    ensures { λ r. ⌜ OverRecords (λ directory directory′. ContoursBuilt (now (values .entry)) (level .threshold) dx dy (now (lines .entry)) (now (links .entry)) (now (points .entry)) directory r
+    ensures { λ r. ⌜ OverRecords (λ directory directory′. ContoursBuilt (now (values .entry)) level dx dy (now (lines .entry)) (now (links .entry)) (now (points .entry)) directory r
         (now (lines .exit)) (now (links .exit)) (now (points .exit)) directory′) (ringsIn r) (now (directory .entry)) (now (directory .exit)) (now (records .entry)) (now (records .exit)) ⌝ }
 {
     let room = records.len();
@@ -252,6 +255,7 @@ pub fn contour_records(
 pub fn isoband_records(
     values: &[f64],
     thresholds: &[f64],
+    rule: Rule,
     k: usize,
     dx: usize,
     dy: usize,
@@ -261,13 +265,14 @@ pub fn isoband_records(
     directory: &mut [u32],
     records: &mut [RingRecord],
 ) -> Built
-    ensures { λ r. ⌜ OverRecords (λ directory directory′. BandBuilt (now (values .entry)) (now (thresholds .entry)) k dx dy (now (lines .entry)) (now (links .entry)) (now (points .entry)) directory r
+    ensures { λ r. ⌜ OverRecords (λ directory directory′. BandBuilt (now (values .entry)) (now (thresholds .entry)) rule k dx dy (now (lines .entry)) (now (links .entry)) (now (points .entry)) directory r
         (now (lines .exit)) (now (links .exit)) (now (points .exit)) directory′) (ringsIn r) (now (directory .entry)) (now (directory .exit)) (now (records .entry)) (now (records .exit)) ⌝ }
 {
     let room = records.len();
     let built = bands_over(
         values,
         thresholds,
+        rule,
         k,
         dx,
         dy,

@@ -24,7 +24,6 @@ use crate::tables::points_lent;
 use crate::tables::words_hold;
 use bands::band_first_report;
 use bands::band_second_report;
-use cells::Level;
 use contourbuilder::contours;
 use contourbuilder::isobands;
 use isoringbuilder::Built;
@@ -34,6 +33,7 @@ use isoringbuilder::second_report;
 use linebuilder::contour_lines;
 use scan::FirstReport;
 use scan::first_report;
+use scope::Level;
 
 // How many samples there is room for.
 pub const VALUES: usize = 4104;
@@ -42,8 +42,11 @@ pub const VALUES: usize = 4104;
 pub const PLACED: f64 = 7.0;
 
 pub fn level(case: Case) -> Level {
+    let list = case.list;
+    let rule = list.rule;
     Level {
-        threshold: case.list.lower,
+        threshold: list.lower,
+        rule,
     }
 }
 
@@ -54,7 +57,9 @@ fn report_first(case: Case, grid: &[f64]) -> FirstReport {
 
 // The first report of a band.
 fn report_band_first(case: Case, grid: &[f64], thresholds: &[f64]) -> FirstReport {
-    band_first_report(grid, thresholds, case.list.k, case.dx, case.dy)
+    let list = case.list;
+    let rule = list.rule;
+    band_first_report(grid, thresholds, rule, list.k, case.dx, case.dy)
 }
 
 // The second report of one threshold.
@@ -70,10 +75,13 @@ fn report_band_second(
     lines: &mut [u32],
     links: &mut [u32],
 ) -> SecondReport {
+    let list = case.list;
+    let rule = list.rule;
     band_second_report(
         grid,
         thresholds,
-        case.list.k,
+        rule,
+        list.k,
         case.dx,
         case.dy,
         lines,
@@ -132,10 +140,13 @@ fn build_band(
     points: &mut [u16],
     directory: &mut [u32],
 ) -> Built {
+    let list = case.list;
+    let rule = list.rule;
     isobands(
         grid,
         thresholds,
-        case.list.k,
+        rule,
+        list.k,
         case.dx,
         case.dy,
         lines,

@@ -3,6 +3,7 @@
 use isoringbuilder::Built;
 use isoringbuilder::SecondReport;
 use scan::FirstReport;
+use scope::Rule;
 use smoothing::Placement;
 use std::num::wrapping_add_usize;
 
@@ -39,10 +40,11 @@ pub struct Room {
 }
 
 // The thresholds: the lower one is that of a build with one. Of the list 3, lower, upper a band is handed the part from one number to before another, and asked
-// for pair k of that.
+// for pair k of that. The rule is that of all of them.
 pub struct List {
     pub lower: f64,
     pub upper: f64,
+    pub rule: Rule,
     pub from: usize,
     pub to: usize,
     pub k: usize,

@@ -7,6 +7,7 @@ use crate::cases::List;
 use crate::cases::exact_room;
 use crate::tables::after;
 use crate::tables::word;
+use scope::Rule;
 use smoothing::Placement;
 ghost use Prim.Native.Nat.{_<_};
 
@@ -21,11 +22,12 @@ pub const PLAIN: Drawing = Drawing {
     },
 };
 
-// The only pair of a list.
-pub fn pair_of(lower: f64, upper: f64) -> List {
+// The only pair of a list, under this rule.
+pub fn pair_of(lower: f64, upper: f64, rule: Rule) -> List {
     List {
         lower,
         upper,
+        rule,
         from: 1,
         to: 3,
         k: 0,

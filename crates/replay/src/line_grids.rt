@@ -1,4 +1,4 @@
-// A line of the text of lines: sides, smoothing, threshold and placement, the samples, the set of the lines, and their points. A float is four numbers, the parts
+// A line of the text of lines: sides, smoothing, the rule's number, threshold and placement, the samples, the set of the lines, and their points. A float is four numbers, the parts
 // of its pattern.
 use crate::calls::VALUES;
 use crate::cases::Build;
@@ -13,10 +13,11 @@ use crate::tables::after;
 use crate::tables::listed_float;
 use crate::tables::put_float;
 use crate::tables::word;
+use cells::rule_of;
 use smoothing::Placement;
 
 // The numbers before the samples.
-const BEFORE_SAMPLES: usize = 23;
+const BEFORE_SAMPLES: usize = 24;
 
 // Stores this many samples.
 fn fill_floats(numbers: &[u32], count: usize, values: &mut [f64; VALUES]) {
@@ -43,12 +44,12 @@ pub fn lines_hold(line: &[u32]) -> bool {
     let samples = after(line, BEFORE_SAMPLES);
     let set = after(samples, 4 * sample_count(word(line, 0), word(line, 1)));
     let listed = after_records(set);
-    let threshold = listed_float(after(line, 3));
+    let threshold = listed_float(after(line, 4));
     let drawing = Drawing {
         smooth: word(line, 2) != 0,
-        placement: placement(after(line, 7)),
+        placement: placement(after(line, 8)),
     };
-    let list = pair_of(threshold, threshold);
+    let list = pair_of(threshold, threshold, rule_of(word(line, 3)));
     let case = case_of(Build::Lines, line, counts_of(set), list, drawing);
     let mut values = [0.0f64; VALUES];
     fill_floats(samples, case.samples, &mut values);

@@ -55,7 +55,9 @@ fn run_tried(
 {
     let build = case.build;
     let level = level(case);
-    let k = case.list.k;
+    let list = case.list;
+    let rule = list.rule;
+    let k = list.k;
     let dx = case.dx;
     let dy = case.dy;
     let drawing = case.drawing;
@@ -67,6 +69,7 @@ fn run_tried(
         Build::Band => try_band(
             grid,
             thresholds,
+            rule,
             k,
             dx,
             dy,

@@ -13,6 +13,7 @@ use crate::recorded::both_hold;
 use crate::tables::after;
 use crate::tables::put_float;
 use crate::tables::word;
+use scope::Rule;
 
 // Stores this many samples.
 fn fill(numbers: &[u32], count: usize, values: &mut [f64; VALUES]) {
@@ -26,13 +27,15 @@ fn after_samples(line: &[u32]) -> &[u32] {
     after(line, 2 + sample_count(word(line, 0), word(line, 1)))
 }
 
-// Whether contour and band of this line, and the fates of the contour's rings, are replayed without a difference.
-pub fn regions_hold(line: &[u32]) -> bool {
+// Whether contour and band of this line are replayed without a difference at thresholds that are so much below its own, under this rule.
+fn regions_hold_at(line: &[u32], below: f64, rule: Rule) -> bool {
     let pair = after_samples(line);
     let contour = after(pair, 2);
     let band = after_records(contour);
     let listed = after_records(band);
-    let list = pair_of(word(pair, 0) as f64, word(pair, 1) as f64);
+    let lower = word(pair, 0) as f64 - below;
+    let upper = word(pair, 1) as f64 - below;
+    let list = pair_of(lower, upper, rule);
     let contour_case = case_of(Build::Contour, line, counts_of(contour), list, PLAIN);
     let band_case = case_of(Build::Band, line, counts_of(band), list, PLAIN);
     let mut values = [0.0f64; VALUES];
@@ -46,4 +49,10 @@ pub fn regions_hold(line: &[u32]) -> bool {
             after(contour, 4),
             contour_case.counts.rings,
         )
+}
+
+// Whether contour and band of this line, and the fates of the contour's rings, are replayed without a difference. Samples and thresholds are whole: the samples
+// that are at least a threshold are those that are more than one less.
+pub fn regions_hold(line: &[u32]) -> bool {
+    regions_hold_at(line, 0.0, Rule::AtLeast) & regions_hold_at(line, 1.0, Rule::MoreThan)
 }

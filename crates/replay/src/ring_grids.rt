@@ -13,6 +13,7 @@ use crate::tables::put;
 use crate::tables::put_float;
 use crate::tables::word;
 use crate::text::NUMBERS;
+use scope::Rule;
 use std::num::wrapping_add_u32;
 use std::num::wrapping_add_usize;
 
@@ -114,15 +115,21 @@ fn taken_holds(
     both_hold(case, records, listed, values) & rows_hold(case, records, listed, values)
 }
 
-// Whether the grid of this line is replayed without a difference.
-pub fn rings_hold(line: &[u32]) -> bool {
+// Whether the grid of this line is replayed without a difference at this threshold under this rule.
+fn rings_hold_at(line: &[u32], threshold: f64, rule: Rule) -> bool {
     let set = after(line, 2 + word(line, 1) as usize);
     let counts = counts_of(set);
-    let case = case_of(Build::Rings, line, counts, pair_of(1.0, 1.0), PLAIN);
+    let list = pair_of(threshold, threshold, rule);
+    let case = case_of(Build::Rings, line, counts, list, PLAIN);
     let mut records = [0u32; NUMBERS];
     let mut listed = [0u32; NUMBERS];
     let taken = take_rings(after(set, 3), &mut records, &mut listed);
     let mut values = [0.0f64; VALUES];
     fill_rows(after(line, 2), case.dx, case.samples, &mut values);
     is_whole(taken, counts) & taken_holds(case, &records, &listed, &values)
+}
+
+// Whether the grid of this line is replayed without a difference. Its samples are 0 and 1: those that are at least 1 are those that are more than 0.
+pub fn rings_hold(line: &[u32]) -> bool {
+    rings_hold_at(line, 1.0, Rule::AtLeast) & rings_hold_at(line, 0.0, Rule::MoreThan)
 }

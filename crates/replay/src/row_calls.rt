@@ -8,12 +8,14 @@ use crate::tables::SOIL;
 use crate::tables::SOILED;
 use crate::tables::WORDS;
 use crate::tables::floats_front;
+use cells::rule_number;
 use rows::Rows;
 use rows::Step;
 use rows::begin;
 use rows::end;
 use rows::row;
 use scan::ROW_WORDS;
+use scope::Level;
 
 // Stands for a call that is lent every table where else the number of the table that is withheld stands.
 pub const FULL: u32 = 9;
@@ -139,9 +141,16 @@ fn same_samples(one: [u64; ROW_WORDS], other: [u64; ROW_WORDS]) -> bool {
     true
 }
 
-// Whether two states have the same sides and have come equally far.
+// Whether two levels are the same.
+fn same_level(one: Level, other: Level) -> bool {
+    let rule = one.rule;
+    let other_rule = other.rule;
+    (one.threshold == other.threshold) & (rule_number(rule) == rule_number(other_rule))
+}
+
+// Whether two states have the same level and sides and have come equally far.
 fn same_place(one: Rows, other: Rows) -> bool {
-    (one.level.threshold == other.level.threshold)
+    same_level(one.level, other.level)
         & (one.dx == other.dx)
         & (one.dy == other.dy)
         & (one.drawn == other.drawn)

@@ -10,8 +10,8 @@ use crate::cases::Drawing;
 use crate::cases::GENEROUS;
 use crate::cases::List;
 use crate::cases::Room;
-use crate::grids::pair_of;
 use crate::grids::sized_case;
+use scope::Rule;
 use smoothing::Placement;
 
 // Smoothed lines, placed so that every coordinate is the same.
@@ -52,6 +52,7 @@ fn list_of(length: usize, k: usize) -> List {
     List {
         lower: 1.0,
         upper: 2.0,
+        rule: Rule::AtLeast,
         from: 1,
         to: length % 4 + 1,
         k,
@@ -63,6 +64,7 @@ fn second_pair() -> List {
     List {
         lower: 1.0,
         upper: 2.0,
+        rule: Rule::AtLeast,
         from: 0,
         to: 3,
         k: 1,

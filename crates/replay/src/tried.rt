@@ -1,6 +1,5 @@
 // The builds by records, tried: each function lends the first `n` records of an array of its own, and hands the whole array back by value with the answer, so
 // that a program can look at every record. They only test, so all that is proved of a function is that it is safe and ends.
-use cells::Level;
 use isoringbuilder::Built;
 use records::contour_records;
 use records::isoband_records;
@@ -8,6 +7,8 @@ use records::line_records;
 use records::ring_records;
 use ringrecord::Fate;
 use ringrecord::RingRecord;
+use scope::Level;
+use scope::Rule;
 use smoothing::Placement;
 ghost use Prim.Native.Nat.{_≤_};
 
@@ -104,6 +105,7 @@ pub fn try_contour(
 pub fn try_band(
     values: &[f64],
     thresholds: &[f64],
+    rule: Rule,
     k: usize,
     dx: usize,
     dy: usize,
@@ -119,6 +121,7 @@ pub fn try_band(
     let answer = isoband_records(
         values,
         thresholds,
+        rule,
         k,
         dx,
         dy,

@@ -32,7 +32,7 @@ use Rattle.packing.specs.Cleared.{cleared}
 use Rattle.packing.proofs.Laws.{clearing-keeps-the-length, the-rest-stays}
 use Rattle.sweep.specs.Sweep.{sampleIn, between, rowCells}
 use Rattle.sweep.proofs.Rows.{upper-kept, lower-kept}
-use Rattle.cells.specs.declared.Level.{Level}
+use Rattle.scope.specs.declared.Level.{Level}
 use Rattle.isoringbuilder.specs.Verdict.{refused}
 use Rattle.isoringbuilder.specs.declared.Built.the-variants as built-is
 use Rattle.trying.specs.Notes.{frontierNoted}

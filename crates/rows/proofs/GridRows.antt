@@ -12,13 +12,13 @@ use lib.ListN.{length, getD, drop}
 use lib.Seq.{getD-take, getD-drop}
 use borrow.Author.Tests.{lt-ltb, le-ltb}
 use Rattle.scope.specs.Limits.{sideLimit}
-use Rattle.scope.specs.Terrain.{Sheet, atLeast, sheet, terrain}
+use Rattle.scope.specs.Terrain.{Sheet, aboveAt, sheet, terrain}
 use Rattle.laws.proofs.Edges.{Outside}
 use Rattle.words.proofs.Packing.{packed-alike}
 use Rattle.words.proofs.Laws.{none-packed}
 use Rattle.scan.specs.Rows.{wordFrom, Kept}
 use Rattle.scan.proofs.Samples.{terrain-outside}
-use Rattle.cells.specs.declared.Level.{Level}
+use Rattle.scope.specs.declared.Level.{Level}
 use Rattle.rows.specs.Called.{wordsFrom, rowWords, noWords}
 use Rattle.rows.specs.Turns.{valuesOfRow}
 use Rattle.rows.proofs.Samples.{words-count, word-there}
@@ -53,14 +53,14 @@ none-below A {dx} {dy} out narrow = kept-by A (λ x y. false) dx (suc dy) 0 narr
 
 -- row r of a grid's values
 pub row-kept : (level : Level) (values : List Float) (dx dy r : ℕ) → dx ≤ sideLimit → r < dy
-    → Kept (terrain (atLeast (level .threshold)) values dx dy) (suc r) (rowWords level (valuesOfRow values dx r) dx)
+    → Kept (terrain (aboveAt level) values dx dy) (suc r) (rowWords level (valuesOfRow values dx r) dx)
 unfolding rowWords
 row-kept level values dx dy r narrow hr =
     kept-by (terrain rule values dx dy) (terrain rule (valuesOfRow values dx r) dx 1) dx (suc r) 1 narrow
     (λ x h. terrain-outside rule values dx dy .no-column-after x (suc r) h) same
   where
     rule : Float → Bool
-    rule = atLeast (level .threshold)
+    rule = aboveAt level
 
     same : (x : ℕ) → terrain rule (valuesOfRow values dx r) dx 1 (suc x) 1 ≡ terrain rule values dx dy (suc x) (suc r)
     same x = unfold terrain sheet in by (decLt x dx)

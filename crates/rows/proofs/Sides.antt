@@ -9,7 +9,7 @@ use Rattle.error.specs.declared.Refusal.the-variants.{BadSide}
 use Rattle.scope.specs.Limits.{sideLimit}
 use Rattle.laws.proofs.Tests.{neither}
 use Rattle.grid.specs.Grid.{badSide}
-use Rattle.cells.specs.declared.Level.{Level}
+use Rattle.scope.specs.declared.Level.{Level}
 use Rattle.isoringbuilder.specs.declared.Built.the-variants as built-is
 use Rattle.rows.specs.Called.{blank, begunState, begunAnswer}
 use Rattle.rows.specs.declared.Rows.{Rows}

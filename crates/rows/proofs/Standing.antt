@@ -16,7 +16,7 @@ use Rattle.scan.specs.Rows as scan
 use Rattle.machine.proofs.Steps.{Kept}
 use Rattle.machine.proofs.Leaving.{all}
 use Rattle.packing.specs.Cleared.{cleared}
-use Rattle.cells.specs.declared.Level.{Level}
+use Rattle.scope.specs.declared.Level.{Level}
 use Rattle.trying.proofs.Renoted.{noteBy, found-longer}
 use Rattle.giving.specs.Giving.{Given}
 use Rattle.giving.proofs.RowHolds.{RowHolds}

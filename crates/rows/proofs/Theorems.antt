@@ -13,7 +13,7 @@ use borrow.Author.Tests.{lt-ltb, le-ltb, eq-eqb, ne-eqb}
 use Rattle.error.specs.declared.Refusal.{Refusal}
 use Rattle.error.specs.declared.Refusal.the-variants.{BadRow, BadTurn}
 use Rattle.scope.specs.Limits.{sideLimit}
-use Rattle.scope.specs.Terrain.{Sheet, atLeast, terrain}
+use Rattle.scope.specs.Terrain.{Sheet, aboveAt, terrain}
 use Rattle.scope.specs.Room.{openWords, linkWords}
 use Rattle.scope.specs.Stitching.{Drawing}
 use Rattle.scope.specs.Drawing.{drawingAfter, openAfter, peak}
@@ -25,7 +25,7 @@ use Rattle.grid.specs.Grid.{badSide}
 use Rattle.scan.proofs.Samples.{terrain-outside}
 use Rattle.packing.specs.Cleared.{cleared}
 use Rattle.packing.proofs.Laws.{cleared-is-zeroed}
-use Rattle.cells.specs.declared.Level.{Level}
+use Rattle.scope.specs.declared.Level.{Level}
 use Rattle.isoringbuilder.specs.Verdict.{Verdict, refused, passes}
 use Rattle.isoringbuilder.specs.declared.Built.{Built}
 use Rattle.isoringbuilder.specs.declared.Built.the-variants as built-is
@@ -105,10 +105,10 @@ module _ (A : Sheet) {dx dy : ℕ} (out : Outside A dx dy) where
 
 module _ (values : List Float) (level : Level) (dx dy : ℕ) (some-columns : 1 ≤ dx) (columns : dx ≤ sideLimit) (some-rows : 1 ≤ dy) (rows : dy ≤ sideLimit) (filled : length values ≡ dx * dy) where
   abbrev A : Sheet
-  A = terrain (atLeast (level .threshold)) values dx dy
+  A = terrain (aboveAt level) values dx dy
 
   out : Outside A dx dy
-  out = terrain-outside (atLeast (level .threshold)) values dx dy
+  out = terrain-outside (aboveAt level) values dx dy
 
   sides-fit : badSide dx dy ≡ false
   unfolding badSide

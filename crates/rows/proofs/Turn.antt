@@ -17,7 +17,7 @@ use Rattle.scope.specs.Tables.{written, packedPoints, bareRecords}
 use Rattle.laws.proofs.Edges.{Outside}
 use Rattle.laws.proofs.Borders.{first-cell-keeps-lines}
 use Rattle.scan.specs.Rows as scan
-use Rattle.cells.specs.declared.Level.{Level}
+use Rattle.scope.specs.declared.Level.{Level}
 use Rattle.isoringbuilder.specs.Verdict.{Verdict, refused, passes}
 use Rattle.isoringbuilder.specs.declared.Built.{Built}
 use Rattle.isoringbuilder.specs.declared.Built.the-variants as built-is

@@ -8,12 +8,12 @@ use lib.Ieee.{Float}
 use lib.ListN.{length}
 use Rattle.error.specs.declared.Refusal.{Refusal}
 use Rattle.error.specs.declared.Refusal.the-variants.{BadSide, OpenShort, LinksShort, PointsShort, DirectoryShort, BadRow, BadTurn}
-use Rattle.scope.specs.Terrain.{Sheet, atLeast, terrain}
+use Rattle.scope.specs.Terrain.{Sheet, aboveAt, terrain}
 use Rattle.scope.specs.Room.{openWords, linkWords}
 use Rattle.grid.specs.Grid.{badSide}
 use Rattle.scan.specs.Rows.{wordFrom}
 use Rattle.packing.specs.Cleared.{cleared}
-use Rattle.cells.specs.declared.Level.{Level}
+use Rattle.scope.specs.declared.Level.{Level}
 use Rattle.isoringbuilder.specs.declared.Built.{Built}
 use Rattle.isoringbuilder.specs.declared.Built.the-variants as built-is
 use Rattle.trying.specs.declared.Trial.{Trial}
@@ -38,7 +38,7 @@ wordsFrom A s w (suc n) = wordFrom A s (64 * w) ∷ wordsFrom A s (suc w) n
 
 -- the samples of a row of values as words, and those of the outside
 unfoldable pub rowWords : Level → List Float → ℕ → List ℕ
-rowWords level values dx = wordsFrom (terrain (atLeast (level .threshold)) values dx 1) 1 0 65
+rowWords level values dx = wordsFrom (terrain (aboveAt level) values dx 1) 1 0 65
 
 unfoldable pub noWords : List ℕ
 noWords = wordsFrom (λ x y. false) 0 0 65

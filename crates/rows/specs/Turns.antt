@@ -12,7 +12,7 @@ use Rattle.scope.specs.Terrain.{Sheet}
 use Rattle.scope.specs.Stitching.{Line}
 use Rattle.scope.specs.Drawing.{along, openAfter, ringsAfter}
 use Rattle.scope.specs.Room.{openWords, linkWords, directoryWords}
-use Rattle.cells.specs.declared.Level.{Level}
+use Rattle.scope.specs.declared.Level.{Level}
 use Rattle.isoringbuilder.specs.declared.Built.the-variants as built-is
 use Rattle.isoringbuilder.specs.Verdict.{Verdict, refused, passes}
 use Rattle.rows.specs.Called.{begunState, rowCalled}

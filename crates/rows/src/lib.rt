@@ -1,7 +1,6 @@
 // The rings of a terrain that comes row by row: begin, a row of values at a time, and end. Each row or end draws one row of cells and gives out the rings that
 // close in it. Between two calls the state has the last row's samples, the open table the unfinished lines, and the link table their segments. A call is tried
 // over the frontier's words before it changes anything else, so that it is taken whole or refused whole.
-use cells::Level;
 use error::Refusal;
 use giving::Play;
 use giving::file_lines;
@@ -14,6 +13,7 @@ use limits::SIDE_LIMIT;
 use packing::clear;
 use scan::ROW_WORDS;
 use scan::lower_word;
+use scope::Level;
 use trying::Trial;
 use trying::note_lines;
 use trying::try_row;

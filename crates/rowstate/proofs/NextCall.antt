@@ -10,9 +10,9 @@ use lib.Ieee.{Float, binary64, fits}
 use lib.ListN.{length, getD}
 use Rattle.error.specs.declared.Refusal.the-variants.{OpenShort, BadRow, BadTurn}
 use Rattle.scope.specs.Room.{openWords}
-use Rattle.scope.specs.Terrain.{Sheet, atLeast, terrain}
+use Rattle.scope.specs.Terrain.{Sheet, aboveAt, terrain}
 use Rattle.words.proofs.Laws.{none-packed}
-use Rattle.cells.specs.declared.Level.{Level}
+use Rattle.scope.specs.declared.Level.{Level}
 use Rattle.grid.specs.Grid.{badSide}
 use Rattle.scan.specs.Rows.{wordFrom}
 use Rattle.scan.proofs.Samples.{terrain-outside}
@@ -47,7 +47,7 @@ module _ (A : Sheet) (s : ℕ) {dx : ℕ} (outside : (c : ℕ) → dx < c → A 
 
 row-bounded : (level : Level) (values : List Float) (dx : ℕ) → Bounded dx (rowWords level values dx)
 unfolding rowWords
-row-bounded level values dx = words-bounded (terrain (atLeast (level .threshold)) values dx 1) 1 (λ c l. terrain-outside (atLeast (level .threshold)) values dx 1 .no-column-after c 1 l)
+row-bounded level values dx = words-bounded (terrain (aboveAt level) values dx 1) 1 (λ c l. terrain-outside (aboveAt level) values dx 1 .no-column-after c 1 l)
 
 none-bounded : (dx : ℕ) → Bounded dx noWords
 unfolding noWords
@@ -107,6 +107,6 @@ module _ {level : Level} (s : Rows) (stored : Stored level s) (lines links point
       (zeroed-leads drawn (drawn .answer) (advanced-leads noWords (none-bounded (s .dx))))
 
 -- and what the next call reads is that state, at a threshold that an `f64` holds
-pub stored-is-read : (level : Level) (s : Rows) (words : List ℕ) → Stored level s → T (fits binary64 (level .threshold)) → length words ≡ 140 → stateIn (stateOut s words) ≡ s
+pub stored-is-read : (level : Level) (s : Rows) (words : List ℕ) → Stored level s → T (fits binary64 (level .threshold)) → length words ≡ 141 → stateIn (stateOut s words) ≡ s
 stored-is-read level s words stored held room =
     read-back s words room (stored .0 .size) (stored .0 .none) (subst (λ (l : Level). T (fits binary64 (l .threshold))) (sym (stored .1)) held)

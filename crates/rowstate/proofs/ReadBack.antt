@@ -1,5 +1,5 @@
--- A state that is stored in words and read again is that state: the numbers word by word, the threshold by the laws of its bits, and the samples by their halves.
--- Assumes nothing.
+-- A state that is stored in words and read again is that state: the numbers word by word, the threshold by the laws of its bits, the rule by its
+-- number, and the samples by their halves. Assumes nothing.
 use mathlib.Core.Path.{_≡_, refl, sym, ap, _∙_}
 use mathlib.Core.List.{List, _∷_, _++_}
 use Prim.Native.Nat.{ℕ, zero, suc, _+_, _-_, _*_, _≤_, _<_}
@@ -12,6 +12,10 @@ use lib.Ieee.Bits.{ofBits-toBits}
 use lib.ListN.{length, getD, take, drop, replicate, length-drop, take-append-drop, getD-replicate, List·getD-eq-default}
 use lib.Seq.{sets, sets-eq, drop-cons, getD-drop, getD-append-add, length-take-le, ext-getD}
 use borrow.Author.Tests.{leb-true, leb-false}
+use Rattle.scope.specs.declared.Rule.{Rule}
+use Rattle.scope.specs.declared.Level.{Level}
+use Rattle.cells.specs.Rules.{levelOf, ruleNumber}
+use Rattle.cells.proofs.Laws.{a-rule-comes-back}
 use Rattle.rows.specs.declared.Rows.{Rows}
 use Rattle.rowstate.specs.Words.{sampleWords, paired, lowHalf, highHalf, samplesFrom, samplesIn, stateIn, halvesFrom, samplesOut, headWords, stateOut}
 use Rattle.rowstate.proofs.Walks.{samples-in-a-row}
@@ -47,7 +51,7 @@ halves-there above rest w (suc n) (suc v) l =
     )
 
 -- samples that are read word by word are a part of those that the words hold
-part-read : (words above : List ℕ) (w n : ℕ) → w + n ≤ length above → ((v : ℕ) → v < w + n → paired (getD words (10 + 2 * v) 0) (getD words (10 + 2 * v + 1) 0) ≡ getD above v 0)
+part-read : (words above : List ℕ) (w n : ℕ) → w + n ≤ length above → ((v : ℕ) → v < w + n → paired (getD words (11 + 2 * v) 0) (getD words (11 + 2 * v + 1) 0) ≡ getD above v 0)
     → samplesFrom words w n ≡ take n (drop w above)
 unfolding samplesFrom
 part-read words above w zero l each = refl
@@ -72,7 +76,7 @@ over-zeros above n size l none =
 
 -- ---- the whole state
 
-module _ (s : Rows) (words : List ℕ) (room : length words ≡ 140) where
+module _ (s : Rows) (words : List ℕ) (room : length words ≡ 141) where
   abbrev bits : ℕ
   bits = toBits binary64 (s .level .threshold)
 
@@ -80,34 +84,34 @@ module _ (s : Rows) (words : List ℕ) (room : length words ≡ 140) where
   halves = halvesFrom (s .above) 0 (sampleWords (s .dx))
 
   abbrev rest : List ℕ
-  rest = drop (10 + length halves) (headWords s bits ++ drop 10 words)
+  rest = drop (11 + length halves) (headWords s bits ++ drop 11 words)
 
   -- the words before the samples, those of the samples, and the rest
   laid : stateOut s words ≡ headWords s bits ++ (halves ++ rest)
   unfolding stateOut samplesOut headWords
   laid =
-      ap (λ (ws : List ℕ). sets ws 10 halves) (sets-eq (headWords s bits) words 0 (omega (arith, room)))
-      ∙ sets-eq halves (headWords s bits ++ drop 10 words) 10 (omega (arith, length-drop 10 words, room, halves-count (s .above) 0 (sampleWords (s .dx)), samples-in-a-row (s .dx)))
+      ap (λ (ws : List ℕ). sets ws 11 halves) (sets-eq (headWords s bits) words 0 (omega (arith, room)))
+      ∙ sets-eq halves (headWords s bits ++ drop 11 words) 11 (omega (arith, length-drop 11 words, room, halves-count (s .above) 0 (sampleWords (s .dx)), samples-in-a-row (s .dx)))
 
   -- word v of the samples is read as it was
-  sample-there : (v : ℕ) → v < sampleWords (s .dx) → paired (getD (headWords s bits ++ (halves ++ rest)) (10 + 2 * v) 0) (getD (headWords s bits ++ (halves ++ rest)) (10 + 2 * v + 1) 0) ≡ getD (s .above) v 0
+  sample-there : (v : ℕ) → v < sampleWords (s .dx) → paired (getD (headWords s bits ++ (halves ++ rest)) (11 + 2 * v) 0) (getD (headWords s bits ++ (halves ++ rest)) (11 + 2 * v + 1) 0) ≡ getD (s .above) v 0
   unfolding headWords
   sample-there v l =
       let front = headWords s bits in
       let there = halves-there (s .above) rest 0 (sampleWords (s .dx)) v l in
-      ap (λ (x : ℕ). paired x (getD (front ++ (halves ++ rest)) (10 + 2 * v + 1) 0)) (getD-append-add front (halves ++ rest) (2 * v) 0 ∙ there .0)
+      ap (λ (x : ℕ). paired x (getD (front ++ (halves ++ rest)) (11 + 2 * v + 1) 0)) (getD-append-add front (halves ++ rest) (2 * v) 0 ∙ there .0)
       ∙ ap (λ (k : ℕ). paired (lowHalf (getD (s .above) (0 + v) 0)) (getD (front ++ (halves ++ rest)) k 0)) (behind v)
       ∙ ap (paired (lowHalf (getD (s .above) (0 + v) 0))) (getD-append-add front (halves ++ rest) (suc (2 * v)) 0 ∙ there .1)
       ∙ halves-make-one (getD (s .above) (0 + v) 0)
       ∙ ap (λ (k : ℕ). getD (s .above) k 0) (zero-add v)
     where
-      behind : (v : ℕ) → 10 + 2 * v + 1 ≡ 10 + suc (2 * v)
+      behind : (v : ℕ) → 11 + 2 * v + 1 ≡ 11 + suc (2 * v)
       behind v = omega arith
 
-  -- the state with this threshold and these samples
-  abbrev made : Float → List ℕ → Rows
-  made threshold above = record {
-    level = record { threshold = threshold };
+  -- the state at this level and with these samples
+  abbrev made : Level → List ℕ → Rows
+  made level above = record {
+    level = level;
     dx = s .dx;
     dy = s .dy;
     drawn = s .drawn;
@@ -118,6 +122,13 @@ module _ (s : Rows) (words : List ℕ) (room : length words ≡ 140) where
     held = s .held;
     above = above;
   }
+
+  -- an `f64` holds the threshold
+  level-back : T (fits binary64 (s .level .threshold)) → levelOf (ofBits binary64 (paired (lowHalf bits) (highHalf bits))) (ruleNumber (s .level .rule)) ≡ s .level
+  unfolding levelOf
+  level-back held =
+      ap (λ (x : Float). levelOf x (ruleNumber (s .level .rule))) (ap (ofBits binary64) (halves-make-one bits) ∙ ofBits-toBits binary64 (s .level .threshold) held)
+      ∙ ap (λ (x : Rule). record { threshold = s .level .threshold; rule = x }) (a-rule-comes-back (s .level .rule))
 
   -- where there are 65 words of samples, and none past the columns
   module _ (size : length (s .above) ≡ 65) (none : (w : ℕ) → s .dx ≤ 64 * w → getD (s .above) w 0 ≡ 0) where
@@ -136,10 +147,9 @@ module _ (s : Rows) (words : List ℕ) (room : length words ≡ 140) where
         (part-read (headWords s bits ++ (halves ++ rest)) (s .above) 0 (sampleWords (s .dx)) (omega (arith, size, samples-in-a-row (s .dx))) (λ v l. sample-there v (omega (arith, zero-add (sampleWords (s .dx))))))
         ∙ over-zeros (s .above) (sampleWords (s .dx)) size (samples-in-a-row (s .dx)) none-past
 
-    -- and an `f64` holds the threshold
     pub read-back : T (fits binary64 (s .level .threshold)) → stateIn (stateOut s words) ≡ s
     unfolding stateIn headWords
     read-back held =
         ap stateIn laid
-        ∙ ap (λ (x : Float). made x (samplesIn (headWords s bits ++ (halves ++ rest)) (s .dx))) (ap (ofBits binary64) (halves-make-one bits) ∙ ofBits-toBits binary64 (s .level .threshold) held)
-        ∙ ap (made (s .level .threshold)) samples-back
+        ∙ ap (λ (l : Level). made l (samplesIn (headWords s bits ++ (halves ++ rest)) (s .dx))) (level-back held)
+        ∙ ap (made (s .level)) samples-back

@@ -22,7 +22,7 @@ none-left w n l = omega arith
 next : (k : ℕ) → suc k ≡ k + 1
 next k = omega arith
 
-two-on : (w : ℕ) → suc (10 + 2 * w + 1) ≡ 10 + 2 * (w + 1)
+two-on : (w : ℕ) → suc (11 + 2 * w + 1) ≡ 11 + 2 * (w + 1)
 two-on w = omega arith
 
 -- the loops begin: all is left
@@ -31,13 +31,13 @@ module _ (dx : ℕ) {count : ℕ} (all : count ≡ sampleWords dx) where
   unfolding samplesIn
   none-read words = ap (λ (k : ℕ). sets (replicate 65 0) 0 (samplesFrom words 0 k)) (sym all ∙ sym (sub-zero count))
 
-  pub none-stored : (above words : List ℕ) → samplesOut above dx words ≡ sets words (10 + 2 * 0) (halvesFrom above 0 (count - 0))
+  pub none-stored : (above words : List ℕ) → samplesOut above dx words ≡ sets words (11 + 2 * 0) (halvesFrom above 0 (count - 0))
   unfolding samplesOut
-  none-stored above words = ap (λ (k : ℕ). sets words 10 (halvesFrom above 0 k)) (sym all ∙ sym (sub-zero count))
+  none-stored above words = ap (λ (k : ℕ). sets words 11 (halvesFrom above 0 k)) (sym all ∙ sym (sub-zero count))
 
 -- one word more, and the end
 module _ (words : List ℕ) (w n : ℕ) where
-  pub sample-read : (above : List ℕ) (word : ℕ) → w < n → word ≡ paired (getD words (10 + 2 * w) 0) (getD words (10 + 2 * w + 1) 0)
+  pub sample-read : (above : List ℕ) (word : ℕ) → w < n → word ≡ paired (getD words (11 + 2 * w) 0) (getD words (11 + 2 * w + 1) 0)
       → sets above w (samplesFrom words w (n - w)) ≡ sets (set above w word) (w + 1) (samplesFrom words (w + 1) (n - (w + 1)))
   unfolding samplesFrom
   sample-read above word l is =
@@ -51,18 +51,18 @@ module _ (words : List ℕ) (w n : ℕ) where
 
 module _ (above : List ℕ) (w n : ℕ) where
   pub sample-stored : (words : List ℕ) (low high : ℕ) → w < n → low ≡ lowHalf (getD above w 0) → high ≡ highHalf (getD above w 0)
-      → sets words (10 + 2 * w) (halvesFrom above w (n - w)) ≡ sets (set (set words (10 + 2 * w) low) (10 + 2 * w + 1) high) (10 + 2 * (w + 1)) (halvesFrom above (w + 1) (n - (w + 1)))
+      → sets words (11 + 2 * w) (halvesFrom above w (n - w)) ≡ sets (set (set words (11 + 2 * w) low) (11 + 2 * w + 1) high) (11 + 2 * (w + 1)) (halvesFrom above (w + 1) (n - (w + 1)))
   unfolding halvesFrom
   sample-stored words low high l is is′ =
-      let at = 10 + 2 * w in
+      let at = 11 + 2 * w in
       let rest = halvesFrom above (suc w) (n - (w + 1)) in
       ap (λ (k : ℕ). sets words at (halvesFrom above w k)) (one-fewer w n l)
       ∙ ap (λ (x : ℕ). sets (set (set words at x) (suc at) (highHalf (getD above w 0))) (suc (suc at)) rest) (sym is)
       ∙ ap (λ (x : ℕ). sets (set (set words at low) (suc at) x) (suc (suc at)) rest) (sym is′)
       ∙ ap (λ (k : ℕ). sets (set (set words at low) k high) (suc k) rest) (next at)
       ∙ ap (λ (k : ℕ). sets (set (set words at low) (at + 1) high) k rest) (two-on w)
-      ∙ ap (λ (k : ℕ). sets (set (set words at low) (at + 1) high) (10 + 2 * (w + 1)) (halvesFrom above k (n - (w + 1)))) (next w)
+      ∙ ap (λ (k : ℕ). sets (set (set words at low) (at + 1) high) (11 + 2 * (w + 1)) (halvesFrom above k (n - (w + 1)))) (next w)
 
-  pub all-stored : (words : List ℕ) → n ≤ w → sets words (10 + 2 * w) (halvesFrom above w (n - w)) ≡ words
+  pub all-stored : (words : List ℕ) → n ≤ w → sets words (11 + 2 * w) (halvesFrom above w (n - w)) ≡ words
   unfolding halvesFrom
-  all-stored words l = ap (λ (k : ℕ). sets words (10 + 2 * w) (halvesFrom above w k)) (none-left w n l)
+  all-stored words l = ap (λ (k : ℕ). sets words (11 + 2 * w) (halvesFrom above w k)) (none-left w n l)

@@ -1,6 +1,7 @@
-// The state of a terrain that comes row by row as a fixed number of words, for a caller who is lent none of our structs: eight numbers, the threshold by its bits, and
-// the samples of the last row, two words for sixty-four of them.
-use cells::Level;
+// The state of a terrain that comes row by row as a fixed number of words, for a caller who is lent none of our structs: eight numbers, the threshold by its bits,
+// the rule by its number, and the samples of the last row, two words for sixty-four of them.
+use cells::level_of;
+use cells::rule_number;
 use rows::Rows;
 use scan::ROW_WORDS;
 use words::SAMPLES;
@@ -9,10 +10,10 @@ ghost use lib.Ieee.{binary64, ofBits, toBits};
 ghost use Rattle.rowstate.specs.Words.{sampleWords, paired, lowHalf, highHalf, samplesIn, samplesOut, stateIn, stateOut};
 
 // How many words a state has.
-pub const STATE_WORDS: usize = 140;
+pub const STATE_WORDS: usize = 141;
 
 // Where the samples of the last row begin.
-const SAMPLES_AT: usize = 10;
+const SAMPLES_AT: usize = 11;
 
 // What a word of samples or of bits is split by.
 const HALF: u64 = 4294967296;
@@ -92,9 +93,10 @@ pub fn state_of(words: &[u32; STATE_WORDS]) -> Rows
     ensures { λ r. ⌜ r ≡ stateIn (now (words .entry)) ⌝ }
 {
     let threshold = float_of(paired(words[8], words[9]));
+    let level = level_of(threshold, words[10]);
     let above = samples_in(words, words[0]);
     Rows {
-        level: Level { threshold },
+        level,
         dx: words[0],
         dy: words[1],
         drawn: words[2],
@@ -137,5 +139,8 @@ pub fn store_state(state: Rows, words: &mut [u32; STATE_WORDS])
     let bits = bits_of(state.level.threshold);
     words[8] = low_half(bits);
     words[9] = high_half(bits);
+    let level = state.level;
+    let rule = level.rule;
+    words[10] = rule_number(rule);
     store_samples(&state.above, state.dx, words);
 }

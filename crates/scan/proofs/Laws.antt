@@ -3,7 +3,8 @@ use mathlib.Core.Path.{_≡_, sym, _∙_}
 use mathlib.Core.List.{List}
 use Prim.Native.Nat.{ℕ, suc}
 use lib.Ieee.{Float}
-use Rattle.scope.specs.Terrain.{atLeast, terrain}
+use Rattle.scope.specs.declared.Level.{Level}
+use Rattle.scope.specs.Terrain.{aboveAt, terrain}
 use Rattle.scan.specs.Rows.{wordFrom}
 use Rattle.scan.specs.Scanned.{scanned}
 use Rattle.scan.specs.Report.{firstReport}
@@ -14,12 +15,12 @@ use Rattle.scan.specs.declared.FirstReport.{FirstReport}
 one-result : {X : Type 0} {p q answer : X} → p ≡ answer → q ≡ answer → p ≡ q
 one-result hp hq = hp ∙ sym hq
 
-module _ (values : List Float) (threshold : Float) (dx dy : ℕ) where
-  pub one-lower-word : (r c p q : ℕ) → p ≡ wordFrom (terrain (atLeast threshold) values dx dy) (suc r) c → q ≡ wordFrom (terrain (atLeast threshold) values dx dy) (suc r) c → p ≡ q
+module _ (values : List Float) (level : Level) (dx dy : ℕ) where
+  pub one-lower-word : (r c p q : ℕ) → p ≡ wordFrom (terrain (aboveAt level) values dx dy) (suc r) c → q ≡ wordFrom (terrain (aboveAt level) values dx dy) (suc r) c → p ≡ q
   one-lower-word r c p q hp hq = one-result hp hq
 
-  pub one-scan : (p q : Counts) → p ≡ scanned (terrain (atLeast threshold) values dx dy) dx dy → q ≡ scanned (terrain (atLeast threshold) values dx dy) dx dy → p ≡ q
+  pub one-scan : (p q : Counts) → p ≡ scanned (terrain (aboveAt level) values dx dy) dx dy → q ≡ scanned (terrain (aboveAt level) values dx dy) dx dy → p ≡ q
   one-scan p q hp hq = one-result hp hq
 
-  pub one-first-report : (p q : FirstReport) → p ≡ firstReport values threshold dx dy → q ≡ firstReport values threshold dx dy → p ≡ q
+  pub one-first-report : (p q : FirstReport) → p ≡ firstReport values level dx dy → q ≡ firstReport values level dx dy → p ≡ q
   one-first-report p q hp hq = one-result hp hq

@@ -3,7 +3,8 @@ use mathlib.Core.List.{List}
 use Prim.Native.Nat.{ℕ}
 use lib.Ieee.{Float}
 use lib.ListN.{length}
-use Rattle.scope.specs.Terrain.{Sheet, atLeast, terrain}
+use Rattle.scope.specs.declared.Level.{Level}
+use Rattle.scope.specs.Terrain.{Sheet, aboveAt, terrain}
 use Rattle.scope.specs.Drawing.{segmentCount, peak}
 use Rattle.grid.specs.Grid.{gridFit}
 use Rattle.grid.specs.declared.GridFit.{GridFit}
@@ -20,6 +21,6 @@ unfoldable pub reportFor : GridFit → FirstReport → FirstReport
 reportFor fit-is.Fits room = room
 reportFor (fit-is.Refused refusal) room = report-is.Refused refusal
 
-unfoldable pub firstReport : List Float → Float → ℕ → ℕ → FirstReport
-firstReport values threshold dx dy =
-    reportFor (gridFit (length values) dx dy) (roomOf (terrain (atLeast threshold) values dx dy) dx dy)
+unfoldable pub firstReport : List Float → Level → ℕ → ℕ → FirstReport
+firstReport values level dx dy =
+    reportFor (gridFit (length values) dx dy) (roomOf (terrain (aboveAt level) values dx dy) dx dy)

@@ -1,11 +1,11 @@
 // The scan of a grid: the samples of its sheet, and the first report, which counts segments and the peak of open lines
 // without work tables.
-use cells::Level;
 use cells::change_of;
 use error::Refusal;
 use grid::GridFit;
 use grid::grid_fit;
 use limits::SIDE_LIMIT;
+use scope::Level;
 use words::Pane;
 use words::SAMPLES;
 use words::bit_at;
@@ -19,7 +19,7 @@ ghost use mathlib.Core.Path.{_≡_};
 ghost use Prim.Native.Nat.{suc, _+_, _*_, _^_, _≤_, _<_};
 ghost use lib.ListN.{length};
 ghost use Rattle.scope.specs.Limits.{sideLimit};
-ghost use Rattle.scope.specs.Terrain.{atLeast, terrain};
+ghost use Rattle.scope.specs.Terrain.{aboveAt, terrain};
 ghost use Rattle.scope.specs.Cells.{opened, closed};
 ghost use Rattle.words.specs.Panes.{Shows, changesIn};
 ghost use Rattle.grid.specs.Grid.{Sized, gridFit};
@@ -32,7 +32,7 @@ ghost use Rattle.scan.specs.Report.{firstReport};
 pub fn lower_word(values: &[f64], level: Level, dx: usize, dy: usize, r: usize, c: usize) -> u64
     requires { ⌜ Sized (length (now values)) dx dy ⌝ }
     requires { ⌜ c ≤ dx ⌝ }
-    ensures { λ w. ⌜ w ≡ wordFrom (terrain (atLeast (level .threshold)) (now (values .entry)) dx dy) (suc r) c ⌝ }
+    ensures { λ w. ⌜ w ≡ wordFrom (terrain (aboveAt level) (now (values .entry)) dx dy) (suc r) c ⌝ }
 {
     if dy <= r {
         return 0;
@@ -93,10 +93,10 @@ fn with_cell(before: Counts, number: usize) -> Counts
 }
 
 // The counts after sixty-four cells of row `r` from cell `c` on, from those before them. Only the active cells are looked at, by the bits of `changes`.
-// The values, the threshold and the sides say whose cells these are.
+// The values, the level and the sides say whose cells these are.
 fn with_changes(
     values: &[f64],
-    threshold: f64,
+    level: Level,
     dx: usize,
     dy: usize,
     r: usize,
@@ -107,10 +107,10 @@ fn with_changes(
 ) -> Counts
     requires { ⌜ Sized (length (now values)) dx dy ⌝ }
     requires { ⌜ r ≤ dy ⌝ }
-    requires { ⌜ Shows (terrain (atLeast threshold) (now values) dx dy) r c pane ⌝ }
+    requires { ⌜ Shows (terrain (aboveAt level) (now values) dx dy) r c pane ⌝ }
     requires { ⌜ changes ≡ changesIn pane ⌝ }
-    requires { ⌜ before ≡ countsAfter (terrain (atLeast threshold) (now values) dx dy) dx r c ⌝ }
-    ensures { λ s. ⌜ s ≡ countsAfter (terrain (atLeast threshold) (now (values .entry)) dx dy) dx r (c + 64) ⌝ }
+    requires { ⌜ before ≡ countsAfter (terrain (aboveAt level) (now values) dx dy) dx r c ⌝ }
+    ensures { λ s. ⌜ s ≡ countsAfter (terrain (aboveAt level) (now (values .entry)) dx dy) dx r (c + 64) ⌝ }
 {
     let mut counts = before;
     let mut rest = changes;
@@ -141,10 +141,10 @@ fn with_pane(
     requires { ⌜ Sized (length (now values)) dx dy ⌝ }
     requires { ⌜ (r ≤ dy) × (w < 65) × (64 * w ≤ dx) ⌝ }
     requires { ⌜ length (now marks) ≡ 4096 ⌝ }
-    requires { ⌜ Shows (terrain (atLeast (level .threshold)) (now values) dx dy) r (64 * w) pane ⌝ }
-    requires { ⌜ before ≡ countsAfter (terrain (atLeast (level .threshold)) (now values) dx dy) dx r (64 * w) ⌝ }
-    ensures { λ s. ⌜ s ≡ countsAfter (terrain (atLeast (level .threshold)) (now (values .entry)) dx dy) dx r (64 * w + 64) ⌝ }
-    ensures { λ _. ⌜ Noted (terrain (atLeast (level .threshold)) (now (values .entry)) dx dy) r w (now (marks .entry)) (now (marks .exit)) ⌝ }
+    requires { ⌜ Shows (terrain (aboveAt level) (now values) dx dy) r (64 * w) pane ⌝ }
+    requires { ⌜ before ≡ countsAfter (terrain (aboveAt level) (now values) dx dy) dx r (64 * w) ⌝ }
+    ensures { λ s. ⌜ s ≡ countsAfter (terrain (aboveAt level) (now (values .entry)) dx dy) dx r (64 * w + 64) ⌝ }
+    ensures { λ _. ⌜ Noted (terrain (aboveAt level) (now (values .entry)) dx dy) r w (now (marks .entry)) (now (marks .exit)) ⌝ }
 {
     let changes = changes_in(pane);
     if changes == 0 {
@@ -160,17 +160,7 @@ fn with_pane(
             peak: before.peak,
         };
     }
-    with_changes(
-        values,
-        level.threshold,
-        dx,
-        dy,
-        r,
-        SAMPLES * w,
-        pane,
-        changes,
-        before,
-    )
+    with_changes(values, level, dx, dy, r, SAMPLES * w, pane, changes, before)
 }
 
 // The counts after the cells of row `r`, from those before it. `row` holds the samples above these cells, and then those below.
@@ -186,12 +176,12 @@ fn with_row(
 ) -> Counts
     requires { ⌜ Sized (length (now values)) dx dy ⌝ }
     requires { ⌜ r ≤ dy ⌝ }
-    requires { ⌜ Kept (terrain (atLeast (level .threshold)) (now values) dx dy) r (now row) ⌝ }
-    requires { ⌜ Marked (terrain (atLeast (level .threshold)) (now values) dx dy) r (now marks) ⌝ }
-    requires { ⌜ before ≡ countsAfter (terrain (atLeast (level .threshold)) (now values) dx dy) dx r 0 ⌝ }
-    ensures { λ s. ⌜ s ≡ countsAfter (terrain (atLeast (level .threshold)) (now (values .entry)) dx dy) dx r (suc dx) ⌝ }
-    ensures { λ _. ⌜ Kept (terrain (atLeast (level .threshold)) (now (values .entry)) dx dy) (suc r) (now (row .exit)) ⌝ }
-    ensures { λ _. ⌜ Marked (terrain (atLeast (level .threshold)) (now (values .entry)) dx dy) (suc r) (now (marks .exit)) ⌝ }
+    requires { ⌜ Kept (terrain (aboveAt level) (now values) dx dy) r (now row) ⌝ }
+    requires { ⌜ Marked (terrain (aboveAt level) (now values) dx dy) r (now marks) ⌝ }
+    requires { ⌜ before ≡ countsAfter (terrain (aboveAt level) (now values) dx dy) dx r 0 ⌝ }
+    ensures { λ s. ⌜ s ≡ countsAfter (terrain (aboveAt level) (now (values .entry)) dx dy) dx r (suc dx) ⌝ }
+    ensures { λ _. ⌜ Kept (terrain (aboveAt level) (now (values .entry)) dx dy) (suc r) (now (row .exit)) ⌝ }
+    ensures { λ _. ⌜ Marked (terrain (aboveAt level) (now (values .entry)) dx dy) (suc r) (now (marks .exit)) ⌝ }
 {
     let mut counts = before;
     let mut upper = false;
@@ -214,8 +204,8 @@ fn with_row(
 pub fn scan(values: &[f64], level: Level, dx: usize, dy: usize, marks: &mut [u8; TILES]) -> Counts
     requires { ⌜ Sized (length (now values)) dx dy ⌝ }
     requires { ⌜ length (now marks) ≡ 4096 ⌝ }
-    ensures { λ s. ⌜ s ≡ scanned (terrain (atLeast (level .threshold)) (now (values .entry)) dx dy) dx dy ⌝ }
-    ensures { λ _. ⌜ Marked (terrain (atLeast (level .threshold)) (now (values .entry)) dx dy) (suc dy) (now (marks .exit)) ⌝ }
+    ensures { λ s. ⌜ s ≡ scanned (terrain (aboveAt level) (now (values .entry)) dx dy) dx dy ⌝ }
+    ensures { λ _. ⌜ Marked (terrain (aboveAt level) (now (values .entry)) dx dy) (suc dy) (now (marks .exit)) ⌝ }
 {
     let mut row = [0u64; ROW_WORDS];
     let mut counts = Counts {
@@ -241,7 +231,7 @@ pub enum FirstReport {
 
 // The segments that a grid draws at a level and the peak of its open lines, or the lowest refusal that applies, alone.
 pub fn first_report(values: &[f64], level: Level, dx: usize, dy: usize) -> FirstReport
-    ensures { λ r. ⌜ r ≡ firstReport (now (values .entry)) (level .threshold) dx dy ⌝ }
+    ensures { λ r. ⌜ r ≡ firstReport (now (values .entry)) level dx dy ⌝ }
 {
     let fit = grid_fit(values.len(), dx, dy);
     match fit {

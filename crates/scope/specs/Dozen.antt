@@ -7,7 +7,7 @@ use lib.Ieee as Ieee
 use lib.Ieee.{Float, nan}
 use lib.IntN.{ℤ, pos, negsuc, negℤ}
 use lib.ListN.{getD}
-use Rattle.scope.specs.Terrain.{Sheet, atLeast, sheet, terrain}
+use Rattle.scope.specs.Terrain.{Sheet, isAbove, aboveAt, atLeast, sheet, terrain}
 use Rattle.scope.specs.Cells.{Point, numberOf, cellNumber, samePoint, pointOf, caseTable, drawn, placed, cellSegments}
 use Rattle.scope.specs.Stitching.{Line, startsAt, endsAt, find, without, nothing, close, join, append, prepend, start, stitchAt, stitch, stitchAll}
 use Rattle.scope.specs.Drawing.{along, down, upTo, withCell, segmentsAfter, drawingAfter, openAfter, ringsAfter, segmentsOf, ringsOf, segmentCount, ringCount, higher, peak}
@@ -31,11 +31,11 @@ at x y = record { x = x; y = y }
 
 -- the rings of values at a threshold, and their S, R and H
 ringsAt : List Float → Float → ℕ → ℕ → List Line
-ringsAt values t dx dy = ringsOf (terrain (atLeast t) values dx dy) dx dy
+ringsAt values t dx dy = ringsOf (terrain (aboveAt (atLeast t)) values dx dy) dx dy
 
 countsAt : List Float → Float → ℕ → ℕ → List ℕ
 countsAt values t dx dy =
-    let A : Sheet = terrain (atLeast t) values dx dy in
+    let A : Sheet = terrain (aboveAt (atLeast t)) values dx dy in
     segmentCount A dx dy ∷ ringCount A dx dy ∷ peak A dx dy ∷ []
 
 -- a band's rings in its order
@@ -91,5 +91,5 @@ stated =
     ∷ []
 
 pub the-dozen : computed ≡ stated
-unfolding computed stated ringsAt countsAt bandRings diagonal frame peaked one moving atLeast sheet terrain numberOf cellNumber samePoint pointOf caseTable drawn placed cellSegments startsAt endsAt find without nothing close join append prepend start stitchAt stitch stitchAll along down upTo withCell segmentsAfter drawingAfter openAfter ringsAfter segmentsOf ringsOf segmentCount ringCount higher peak twist twists lastOf area positive isZero below belowFraction collinear between onPair leftOfCrossing flips signed walk pointAgainst decide ringAgainst notOutside takes ownerFrom fatesBy contourClasses contourFates sortKey numberedFrom insert sorted bandOrder orderRings takers classesFrom bandFates whole half realOf moved sampleAt moves smoothed xor Ieee.le Ieee.ofInt Ieee.add Ieee.sub Ieee.mul Ieee.div
+unfolding computed stated ringsAt countsAt bandRings diagonal frame peaked one moving isAbove aboveAt sheet terrain numberOf cellNumber samePoint pointOf caseTable drawn placed cellSegments startsAt endsAt find without nothing close join append prepend start stitchAt stitch stitchAll along down upTo withCell segmentsAfter drawingAfter openAfter ringsAfter segmentsOf ringsOf segmentCount ringCount higher peak twist twists lastOf area positive isZero below belowFraction collinear between onPair leftOfCrossing flips signed walk pointAgainst decide ringAgainst notOutside takes ownerFrom fatesBy contourClasses contourFates sortKey numberedFrom insert sorted bandOrder orderRings takers classesFrom bandFates whole half realOf moved sampleAt moves smoothed xor Ieee.le Ieee.ofInt Ieee.add Ieee.sub Ieee.mul Ieee.div
 the-dozen = refl

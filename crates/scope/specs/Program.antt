@@ -3,7 +3,7 @@ use mathlib.Core.Path.{_≡_}
 use mathlib.Core.List.{List, [], _∷_, _++_, map}
 use Prim.Native.Nat.{ℕ, zero, suc, _*_, _≤_}
 use lib.ListN.{length, take, drop}
-use Rattle.scope.specs.Terrain.{Sheet, atLeast, terrain}
+use Rattle.scope.specs.Terrain.{Sheet, aboveAt, atLeast, terrain}
 use Rattle.scope.specs.Drawing.{ringsOf, ringCount}
 use Rattle.scope.specs.Smoothing.{whole}
 use Rattle.scope.specs.Tables.{packedPoints, contourRecords}
@@ -63,7 +63,7 @@ pub record Accepts (text : List ℕ) (i : Input) : Type 0 where
 
 -- the terrain of an input at its threshold
 unfoldable pub inputSheet : Input → Sheet
-inputSheet i = terrain (atLeast (whole (i .threshold))) (map whole (i .values)) (i .dx) (i .dy)
+inputSheet i = terrain (aboveAt (atLeast (whole (i .threshold)))) (map whole (i .values)) (i .dx) (i .dy)
 
 -- the GeoJSON of a contour, by its points and its records
 unfoldable pub contourText : Sheet → ℕ → ℕ → List ℕ

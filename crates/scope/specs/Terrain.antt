@@ -1,16 +1,28 @@
--- The terrain: samples above or not, and the sheet that everything else is drawn from. `atLeast` is the one definition that touches floats.
+-- The terrain: samples above or not, and the sheet that everything else is drawn from. `isAbove` is the one definition that touches floats.
 -- A sheet is counted from one column and one row outside the grid: the sample in column x and row y of the grid stands at x + 1, y + 1.
 -- Assumes nothing.
 use Prim.Native.Nat.{ℕ, zero, suc, _+_, _*_}
 use mathlib.Core.Bool.{Bool, true, false, _&&_}
 use mathlib.Core.List.{List}
 use lib.Dec.{ltb}
-use lib.Ieee.{Float, nan, le}
+use lib.Ieee.{Float, nan, le, lt}
 use lib.ListN.{getD}
+use Rattle.scope.specs.declared.Rule.{Rule}
+use Rattle.scope.specs.declared.Rule.the-variants.{AtLeast, MoreThan}
+use Rattle.scope.specs.declared.Level.{Level}
 
--- a sample is above when value >= threshold; where a NaN stands on either side it is not
-unfoldable pub atLeast : Float → Float → Bool
-atLeast threshold value = le threshold value
+-- a sample is above when value >= threshold, or, under document 02's other rule, when value > threshold; where a NaN stands on either side it is not
+unfoldable pub isAbove : Rule → Float → Float → Bool
+isAbove AtLeast threshold value = le threshold value
+isAbove MoreThan threshold value = lt threshold value
+
+-- whether a value is above at a level
+unfoldable pub aboveAt : Level → Float → Bool
+aboveAt level value = isAbove (level .rule) (level .threshold) value
+
+-- the level of document 01's rule at a threshold
+abbrev pub atLeast : Float → Level
+atLeast threshold = record { threshold = threshold; rule = AtLeast }
 
 -- column, row: whether the sample there is above
 abbrev pub Sheet : Type 0

@@ -1,6 +1,6 @@
 // A line's vertex as f64: smoothed or not, then placed. Each operation is rounded once, left to right, and every function is total.
-use cells::Level;
 use cells::Point;
+use scope::Level;
 ghost use mathlib.Core.Path.{_≡_};
 ghost use mathlib.Core.Bool.{cond};
 ghost use Prim.Native.Nat.{_-_, _/_};

@@ -1,6 +1,5 @@
 // The stitching pass: every cell of a grid, row by row, draws its strokes over the open table and the link table. The tables may be of any length and
 // hold anything: every step is total, as the table machine is, which each contract cites.
-use cells::Level;
 use drawing::Run;
 use drawing::draw_cell;
 use lines::Progress;
@@ -8,6 +7,7 @@ use scan::ROW_WORDS;
 use scan::TILES;
 use scan::lower_word;
 use scan::tile_of;
+use scope::Level;
 use words::Pane;
 use words::SAMPLES;
 use words::bit_at;
@@ -17,7 +17,7 @@ use words::pane_of;
 ghost use mathlib.Core.Path.{_≡_};
 ghost use Prim.Native.Nat.{suc, _+_, _-_, _*_, _^_, _≤_, _<_};
 ghost use lib.ListN.{length};
-ghost use Rattle.scope.specs.Terrain.{atLeast, terrain};
+ghost use Rattle.scope.specs.Terrain.{aboveAt, terrain};
 ghost use Rattle.words.specs.Panes.{Shows, changesIn};
 ghost use Rattle.grid.specs.Grid.{Sized};
 ghost use Rattle.scan.specs.Rows.{Kept, Marked};
@@ -26,11 +26,11 @@ ghost use Rattle.lines.specs.Values.{tablesOf};
 ghost use Rattle.drawing.specs.Values.{runOf};
 ghost use Rattle.stitching.specs.Rows.{cellsDrawn, rowDrawn};
 
-// Sixty-four cells of row `r` from cell `c` on. Only the active cells are drawn, by the bits of `changes`. The values, the threshold and
+// Sixty-four cells of row `r` from cell `c` on. Only the active cells are drawn, by the bits of `changes`. The values, the level and
 // the rows say whose cells these are. The caller sees that the links' numbers fit, at most two a cell.
 fn draw_changes(
     values: &[f64],
-    threshold: f64,
+    level: Level,
     dx: usize,
     dy: usize,
     r: usize,
@@ -43,11 +43,11 @@ fn draw_changes(
 ) -> Run
     requires { ⌜ Sized (length (now values)) dx dy ⌝ }
     requires { ⌜ r ≤ dy ⌝ }
-    requires { ⌜ Shows (terrain (atLeast threshold) (now values) dx dy) r c pane ⌝ }
+    requires { ⌜ Shows (terrain (aboveAt level) (now values) dx dy) r c pane ⌝ }
     requires { ⌜ changes ≡ changesIn pane ⌝ }
     requires { ⌜ before .next + 128 < 2 ^ 32 ⌝ }
     ensures { λ run. ⌜ runOf (now (lines .exit)) (now (links .exit)) run
-        ≡ cellsDrawn (terrain (atLeast threshold) (now (values .entry)) dx dy) dx (runOf (now (lines .entry)) (now (links .entry)) before) r c 64 ⌝ }
+        ≡ cellsDrawn (terrain (aboveAt level) (now (values .entry)) dx dy) dx (runOf (now (lines .entry)) (now (links .entry)) before) r c 64 ⌝ }
 {
     let mut run = before;
     let mut rest = changes;
@@ -79,12 +79,12 @@ fn stitch_row(
 ) -> Run
     requires { ⌜ Sized (length (now values)) dx dy ⌝ }
     requires { ⌜ r ≤ dy ⌝ }
-    requires { ⌜ Kept (terrain (atLeast (level .threshold)) (now values) dx dy) r (now row) ⌝ }
-    requires { ⌜ Marked (terrain (atLeast (level .threshold)) (now values) dx dy) (suc dy) (now marks) ⌝ }
+    requires { ⌜ Kept (terrain (aboveAt level) (now values) dx dy) r (now row) ⌝ }
+    requires { ⌜ Marked (terrain (aboveAt level) (now values) dx dy) (suc dy) (now marks) ⌝ }
     requires { ⌜ before .next + 2 * (dx + 64) < 2 ^ 32 ⌝ }
     ensures { λ run. ⌜ runOf (now (lines .exit)) (now (links .exit)) run
-        ≡ rowDrawn (terrain (atLeast (level .threshold)) (now (values .entry)) dx dy) dx (runOf (now (lines .entry)) (now (links .entry)) before) r (suc dx) ⌝ }
-    ensures { λ _. ⌜ Kept (terrain (atLeast (level .threshold)) (now (values .entry)) dx dy) (suc r) (now (row .exit)) ⌝ }
+        ≡ rowDrawn (terrain (aboveAt level) (now (values .entry)) dx dy) dx (runOf (now (lines .entry)) (now (links .entry)) before) r (suc dx) ⌝ }
+    ensures { λ _. ⌜ Kept (terrain (aboveAt level) (now (values .entry)) dx dy) (suc r) (now (row .exit)) ⌝ }
 {
     let mut run = before;
     let mut upper = false;
@@ -103,7 +103,7 @@ fn stitch_row(
         let changes = changes_in(pane);
         run = draw_changes(
             values,
-            level.threshold,
+            level,
             dx,
             dy,
             r,
@@ -133,9 +133,9 @@ pub fn stitch(
     links: &mut [u32],
 ) -> Progress
     requires { ⌜ Sized (length (now values)) dx dy ⌝ }
-    requires { ⌜ Marked (terrain (atLeast (level .threshold)) (now values) dx dy) (suc dy) (now marks) ⌝ }
+    requires { ⌜ Marked (terrain (aboveAt level) (now values) dx dy) (suc dy) (now marks) ⌝ }
     ensures { λ p. ⌜ tablesOf (now (lines .exit)) (now (links .exit)) p
-        ≡ runAfter (terrain (atLeast (level .threshold)) (now (values .entry)) dx dy) dx (runOver (now (lines .entry)) (now (links .entry))) dy (suc dx) .tables ⌝ }
+        ≡ runAfter (terrain (aboveAt level) (now (values .entry)) dx dy) dx (runOver (now (lines .entry)) (now (links .entry))) dy (suc dx) .tables ⌝ }
 {
     let mut row = [0u64; ROW_WORDS];
     let mut run = Run {

@@ -1,12 +1,13 @@
 // Rows of samples as the bits of words: sixty-four samples a word, the first of them lowest, and sixty-four cells by the words of their samples.
-use cells::Level;
 use cells::above;
 use cells::cell_number;
+use scope::Level;
+use scope::Rule;
 ghost use mathlib.Core.Path.{_≡_};
 ghost use Prim.Native.Nat.{_+_, _≤_, _<_};
 ghost use lib.Count.{ones};
 ghost use lib.ListN.{length};
-ghost use Rattle.scope.specs.Terrain.{atLeast};
+ghost use Rattle.scope.specs.Terrain.{aboveAt};
 ghost use Rattle.scope.specs.Cells.{when};
 ghost use Rattle.words.specs.Bits.{packed, samplesFrom, bitAt, movedIn};
 ghost use Rattle.words.specs.Panes.{paneOf, changesIn, numberIn, saddlesIn, openingIn, closingIn};
@@ -22,9 +23,9 @@ fn bit_of(weight: u64, sample: bool) -> u64
 }
 
 // Eight samples from value `i` on.
-fn eight(values: &[f64], level: Level, i: usize) -> u64
+fn eight_known(values: &[f64], level: Level, i: usize) -> u64
     requires { ⌜ i + 8 ≤ length (now values) ⌝ }
-    ensures { λ r. ⌜ r ≡ packed (samplesFrom (atLeast (level .threshold)) (now (values .entry)) i) 8 ⌝ }
+    ensures { λ r. ⌜ r ≡ packed (samplesFrom (aboveAt level) (now (values .entry)) i) 8 ⌝ }
 {
     bit_of(1, above(level, values[i]))
         + bit_of(2, above(level, values[i + 1]))
@@ -36,10 +37,37 @@ fn eight(values: &[f64], level: Level, i: usize) -> u64
         + bit_of(128, above(level, values[i + 7]))
 }
 
+// Eight samples from value `i` on. The rule is decided once for all of them: in each arm the compiler knows it, and tests several samples at once.
+fn eight(values: &[f64], level: Level, i: usize) -> u64
+    requires { ⌜ i + 8 ≤ length (now values) ⌝ }
+    ensures { λ r. ⌜ r ≡ packed (samplesFrom (aboveAt level) (now (values .entry)) i) 8 ⌝ }
+{
+    let threshold = level.threshold;
+    let rule = level.rule;
+    match rule {
+        Rule::AtLeast => eight_known(
+            values,
+            Level {
+                threshold,
+                rule: Rule::AtLeast,
+            },
+            i,
+        ),
+        Rule::MoreThan => eight_known(
+            values,
+            Level {
+                threshold,
+                rule: Rule::MoreThan,
+            },
+            i,
+        ),
+    }
+}
+
 // Sixteen samples from value `i` on.
 fn sixteen(values: &[f64], level: Level, i: usize) -> u64
     requires { ⌜ i + 16 ≤ length (now values) ⌝ }
-    ensures { λ r. ⌜ r ≡ packed (samplesFrom (atLeast (level .threshold)) (now (values .entry)) i) 16 ⌝ }
+    ensures { λ r. ⌜ r ≡ packed (samplesFrom (aboveAt level) (now (values .entry)) i) 16 ⌝ }
 {
     eight(values, level, i) + eight(values, level, i + 8) * 256
 }
@@ -47,23 +75,50 @@ fn sixteen(values: &[f64], level: Level, i: usize) -> u64
 // Thirty-two samples from value `i` on.
 fn thirty_two(values: &[f64], level: Level, i: usize) -> u64
     requires { ⌜ i + 32 ≤ length (now values) ⌝ }
-    ensures { λ r. ⌜ r ≡ packed (samplesFrom (atLeast (level .threshold)) (now (values .entry)) i) 32 ⌝ }
+    ensures { λ r. ⌜ r ≡ packed (samplesFrom (aboveAt level) (now (values .entry)) i) 32 ⌝ }
 {
     sixteen(values, level, i) + sixteen(values, level, i + 16) * 65536
 }
 
-// A whole word of samples from value `i` on. Halves of halves let the compiler test several samples at once.
-pub fn whole_word(values: &[f64], level: Level, i: usize) -> u64
+// Sixty-four samples from value `i` on, by halves of halves.
+fn sixty_four(values: &[f64], level: Level, i: usize) -> u64
     requires { ⌜ i + 64 ≤ length (now values) ⌝ }
-    ensures { λ r. ⌜ r ≡ packed (samplesFrom (atLeast (level .threshold)) (now (values .entry)) i) 64 ⌝ }
+    ensures { λ r. ⌜ r ≡ packed (samplesFrom (aboveAt level) (now (values .entry)) i) 64 ⌝ }
 {
     thirty_two(values, level, i) + thirty_two(values, level, i + 32) * 4294967296
+}
+
+// A whole word of samples from value `i` on. The rule is decided once for all of them, as in `eight`.
+pub fn whole_word(values: &[f64], level: Level, i: usize) -> u64
+    requires { ⌜ i + 64 ≤ length (now values) ⌝ }
+    ensures { λ r. ⌜ r ≡ packed (samplesFrom (aboveAt level) (now (values .entry)) i) 64 ⌝ }
+{
+    let threshold = level.threshold;
+    let rule = level.rule;
+    match rule {
+        Rule::AtLeast => sixty_four(
+            values,
+            Level {
+                threshold,
+                rule: Rule::AtLeast,
+            },
+            i,
+        ),
+        Rule::MoreThan => sixty_four(
+            values,
+            Level {
+                threshold,
+                rule: Rule::MoreThan,
+            },
+            i,
+        ),
+    }
 }
 
 // The samples of `n` values from value `i` on, at most a word's. Eight at a time, but for those past the last whole eight.
 pub fn word_of(values: &[f64], level: Level, i: usize, n: usize) -> u64
     requires { ⌜ (n ≤ 64) × (i + n ≤ length (now values)) ⌝ }
-    ensures { λ r. ⌜ r ≡ packed (samplesFrom (atLeast (level .threshold)) (now (values .entry)) i) n ⌝ }
+    ensures { λ r. ⌜ r ≡ packed (samplesFrom (aboveAt level) (now (values .entry)) i) n ⌝ }
 {
     let mut word: u64 = 0;
     let mut left = n;

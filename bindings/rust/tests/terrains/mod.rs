@@ -1,9 +1,28 @@
-//! Random terrains, for the tests beside this folder.
+//! Random terrains, for the tests beside this folder. Each of them uses a part of this.
 
-use nigrulent::{Refusal, Terrain};
+#![allow(dead_code)]
+
+use nigrulent::{Level, Refusal, Ring, Rows, Rule, Terrain};
 
 /// How many random terrains are drawn.
 const TERRAINS: u64 = 600;
+
+/// Numbers of every kind: also such whose difference overflows.
+pub const HEIGHTS: [f64; 12] = [
+    0.0,
+    -0.0,
+    0.1,
+    1.0,
+    1.5,
+    7.0,
+    1e-310,
+    1e308,
+    -1e308,
+    f64::INFINITY,
+    f64::NEG_INFINITY,
+    f64::NAN,
+];
+pub const THRESHOLDS: [f64; 7] = [0.0, 0.3, 1.0, 1.5, 1e308, f64::INFINITY, f64::NEG_INFINITY];
 
 /// Random numbers from a fixed seed.
 pub struct Random(pub u64);
@@ -14,14 +33,14 @@ impl Random {
         (self.0 >> 33) % bound
     }
 
-    /// One of these numbers.
-    fn of(&mut self, numbers: &[f64]) -> f64 {
-        numbers[self.below(numbers.len() as u64) as usize]
+    /// One of these.
+    fn of<T: Copy>(&mut self, all: &[T]) -> T {
+        all[self.below(all.len() as u64) as usize]
     }
 }
 
-/// Calls with terrains of sides 1 to 12, of whole values up to 4, and a threshold among these.
-pub fn for_terrains(call: impl FnMut(&Terrain, f64) -> Result<(), Refusal>) {
+/// Calls with terrains of sides 1 to 12, of whole values up to 4, and a level at one of these by either rule.
+pub fn for_terrains(call: impl FnMut(&Terrain, Level) -> Result<(), Refusal>) {
     for_terrains_of(&[0.0, 1.0, 2.0, 3.0, 4.0], &[1.0, 2.0, 3.0, 4.0], call);
 }
 
@@ -29,14 +48,28 @@ pub fn for_terrains(call: impl FnMut(&Terrain, f64) -> Result<(), Refusal>) {
 pub fn for_terrains_of(
     heights: &[f64],
     thresholds: &[f64],
-    mut call: impl FnMut(&Terrain, f64) -> Result<(), Refusal>,
+    mut call: impl FnMut(&Terrain, Level) -> Result<(), Refusal>,
 ) {
     let mut random = Random(1);
     for _ in 0..TERRAINS {
         let [dx, dy] = [(); 2].map(|()| 1 + random.below(12) as usize);
         let values: Vec<_> = (0..dx * dy).map(|_| random.of(heights)).collect();
-        let threshold = random.of(thresholds);
+        let level = Level {
+            threshold: random.of(thresholds),
+            rule: random.of(&[Rule::AtLeast, Rule::MoreThan]),
+        };
         let terrain = Terrain::new(&values, dx, dy).expect("sides and count are right");
-        call(&terrain, threshold).expect("nothing is refused");
+        call(&terrain, level).expect("nothing is refused");
     }
+}
+
+/// The rings of all rows and of the end, one after the other.
+pub fn row_by_row(terrain: &Terrain, level: Level) -> Result<Vec<Ring>, Refusal> {
+    let mut rows = Rows::begin(level, terrain.dx(), terrain.dy())?;
+    let mut rings = Vec::new();
+    for row in terrain.values().chunks(terrain.dx()) {
+        rings.extend(rows.push(row)?.to_rings());
+    }
+    rings.extend(rows.finish()?.to_rings());
+    Ok(rings)
 }

@@ -19,20 +19,20 @@ room-of-requires : tie.Need-room-of-requires
 room-of-requires c κs =
     let known = c .before in
     let start = known .before .before .before .before .before in
-    paired _ _ _ (start .args .k) (start .args .thresholds .now) _ _ _ (known .lower .given .1) (known .before .before .band-pair .ensures) .grid
+    paired _ _ _ (start .args .k) (start .args .thresholds .now) (start .args .rule) _ _ _ (known .lower .given .1) (known .before .before .band-pair .ensures) .grid
 
 returns : tie.Need-returns
 unfolding bandFirstReport reportFor
 returns c =
     let known = c .before in
-    rw (pair-refused _ _ _ _ _ _ _ (known .refusal .given .1) (known .before .before .band-pair .ensures))
+    rw (pair-refused _ _ _ _ _ _ _ _ (known .refusal .given .1) (known .before .before .band-pair .ensures))
 
 returns-2 : tie.Need-returns-2
 unfolding bandFirstReport reportFor
 returns-2 c =
     let known = c .before .before in
     let start = known .before .before .before .before .before in
-    let facts = paired _ _ _ (start .args .k) (start .args .thresholds .now) _ _ _ (known .lower .given .1) (known .before .before .band-pair .ensures) in
+    let facts = paired _ _ _ (start .args .k) (start .args .thresholds .now) (start .args .rule) _ _ _ (known .lower .given .1) (known .before .before .band-pair .ensures) in
     rw (facts .fits, ← facts .lower-is, ← facts .upper-is) (c .room-of .ensures)
 
 pub band-first-report-spec : {M : Type 1} → statement M

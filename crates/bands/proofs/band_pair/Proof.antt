@@ -17,26 +17,26 @@ enum-known-refusal c = search needs
 enum-told : tie.Need-enum-told
 enum-told c = search needs
 
-mul-t12 : tie.Need-mul-t12
-mul-t12 c = omega (arith, fitting _ _ _ _ _ (sym (c .before .before .band-fit .ensures) ∙ c .enum-told .given .1) .place)
+mul-t13 : tie.Need-mul-t13
+mul-t13 c = omega (arith, fitting _ _ _ _ _ (sym (c .before .before .band-fit .ensures) ∙ c .enum-told .given .1) .place)
 
-shared-slice-read-t14 : tie.Need-shared-slice-read-t14
-shared-slice-read-t14 c =
+shared-slice-read-t15 : tie.Need-shared-slice-read-t15
+shared-slice-read-t15 c =
     let told = c .before in
     omega (arith, fitting _ _ _ _ _ (sym (told .before .before .band-fit .ensures) ∙ told .enum-told .given .1) .place)
 
-add-t12 : tie.Need-add-t12
-add-t12 c =
+add-t13 : tie.Need-add-t13
+add-t13 c =
     let told = c .before in
     omega (arith, fitting _ _ _ _ _ (sym (told .before .before .band-fit .ensures) ∙ told .enum-told .given .1) .place)
 
-mul-t15 : tie.Need-mul-t15
-mul-t15 c =
+mul-t16 : tie.Need-mul-t16
+mul-t16 c =
     let told = c .before in
     omega (arith, fitting _ _ _ _ _ (sym (told .before .before .band-fit .ensures) ∙ told .enum-told .given .1) .place)
 
-shared-slice-read-t14-2 : tie.Need-shared-slice-read-t14-2
-shared-slice-read-t14-2 c =
+shared-slice-read-t15-2 : tie.Need-shared-slice-read-t15-2
+shared-slice-read-t15-2 c =
     let told = c .before .before in
     omega (arith, fitting _ _ _ _ _ (sym (told .before .before .band-fit .ensures) ∙ told .enum-told .given .1) .place)
 
@@ -59,10 +59,10 @@ band-pair-spec =
     band-fit-requires
     enum-known-refusal
     enum-told
-    mul-t12
-    shared-slice-read-t14
-    add-t12
-    mul-t15
-    shared-slice-read-t14-2
+    mul-t13
+    shared-slice-read-t15
+    add-t13
+    mul-t16
+    shared-slice-read-t15-2
     returns
     returns-2)

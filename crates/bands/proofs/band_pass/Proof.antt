@@ -82,7 +82,7 @@ returns-3 c =
     let need = open-need _ _ _ _ _ (at-lower .scan .ensures .0) (at-upper .scan2 .ensures .0) (at-open .open-words .ensures) (at-open .before .larger .ensures) in
     let most = link-need _ _ _ _ _ (at-lower .scan .ensures .0) (at-upper .scan2 .ensures .0) (at-links .link-words .ensures) (at-links .before .larger2 .ensures) in
     rw (at-open .before .larger .ensures, at-lower .scan .ensures .0, at-upper .scan2 .ensures .0)
-    (done (start .args .values .now) (start .args .lower .threshold) (start .args .upper .threshold) (start .args .dx) (start .args .dy) (start .args .lines .now) (start .args .links .now) _
+    (done (start .args .values .now) (start .args .lower) (start .args .upper) (start .args .dx) (start .args .dy) (start .args .lines .now) (start .args .links .now) _
     (at-lower .scan .ensures .1) (omega (arith, need, at-links .before .before .if1 .left)) (omega (arith, most, at-first .before .before .before .before .if2 .left))
     (a-grid-that-fits-is-sized _ _ _ (start .pre .0)) _ _ _ _ _ _ (at-first .stitch .ensures) (at-second .stitch2 .ensures))
 

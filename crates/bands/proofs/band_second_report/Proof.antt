@@ -19,13 +19,13 @@ report-over-requires : tie.Need-report-over-requires
 report-over-requires c κs =
     let known = c .before .before .before in
     let start = known .before .before .before .before .before .before .before in
-    paired _ _ _ (start .args .k) (start .args .thresholds .now) _ _ _ (known .lower .given .1) (known .before .before .band-pair .ensures) .grid
+    paired _ _ _ (start .args .k) (start .args .thresholds .now) (start .args .rule) _ _ _ (known .lower .given .1) (known .before .before .band-pair .ensures) .grid
 
 returns : tie.Need-returns
 returns c =
     let known = c .before in
     let start = known .before .before .before .before .before .before .before in
-    fit-refused _ _ (pair-refused _ _ _ (start .args .k) (start .args .thresholds .now) _ _ (known .refusal .given .1) (known .before .before .band-pair .ensures)) _ _ _ _ _ _
+    fit-refused _ _ (pair-refused _ _ _ (start .args .k) (start .args .thresholds .now) (start .args .rule) _ _ (known .refusal .given .1) (known .before .before .band-pair .ensures)) _ _ _ _ _ _
 
 same-length : tie.Need-same-length
 same-length c = search needs
@@ -38,7 +38,7 @@ returns-2 c =
     let reported = c .before .before .before .before in
     let known = reported .before .before .before .before in
     let start = known .before .before .before .before .before .before .before in
-    let facts = paired _ _ _ (start .args .k) (start .args .thresholds .now) _ _ _ (known .lower .given .1) (known .before .before .band-pair .ensures) in
+    let facts = paired _ _ _ (start .args .k) (start .args .thresholds .now) (start .args .rule) _ _ _ (known .lower .given .1) (known .before .before .band-pair .ensures) in
     rw (facts .fits, ← facts .lower-is, ← facts .upper-is) (reported .report-over .ensures)
 
 pub band-second-report-spec : {M : Type 1} → statement M

@@ -5,6 +5,9 @@ use borrow.Author.Needs.{needs}
 use Rattle.contour_c.proofs.contour_band_first_report.Statement.{statement}
 use Rattle.contour_c.proofs.contour_band_first_report.Tie as tie
 
+rule-of-requires : tie.Need-rule-of-requires
+rule-of-requires c κs = search needs
+
 band-first-report-requires : tie.Need-band-first-report-requires
 band-first-report-requires c κs = search needs
 
@@ -19,20 +22,23 @@ number-requires c κs = search needs
 
 returns : tie.Need-returns
 returns c =
-    let drawn = c .before .drawn .given in
-    let entry = c .before .before .before .before .before .before .args in
-    first-given _ _ (entry .segments .now) (entry .peak .now) {answer = bandFirstReport (entry .values .now) (entry .thresholds .now) (entry .k) (entry .dx) (entry .dy)} (drawn .1) (c .before .before .before .band-first-report .ensures)
+    let reported = c .before .before .before in
+    let entry = reported .before .before .before .before .args in
+    rw (← reported .before .rule-of .ensures)
+    (first-given _ _ (entry .segments .now) (entry .peak .now) {answer = bandFirstReport (entry .values .now) (entry .thresholds .now) (reported .before .rule-of .result) (entry .k) (entry .dx) (entry .dy)} (c .before .drawn .given .1) (reported .band-first-report .ensures))
 
 returns-2 : tie.Need-returns-2
 returns-2 c =
-    let refusal = c .before .before .refusal .given in
-    let entry = c .before .before .before .before .before .before .before .args in
-    first-kept _ _ (entry .segments .now) (entry .peak .now) {answer = bandFirstReport (entry .values .now) (entry .thresholds .now) (entry .k) (entry .dx) (entry .dy)} (refusal .1) (c .before .before .before .before .band-first-report .ensures) (c .number .ensures)
+    let reported = c .before .before .before .before in
+    let entry = reported .before .before .before .before .args in
+    rw (← reported .before .rule-of .ensures)
+    (first-kept _ _ (entry .segments .now) (entry .peak .now) {answer = bandFirstReport (entry .values .now) (entry .thresholds .now) (reported .before .rule-of .result) (entry .k) (entry .dx) (entry .dy)} (c .before .before .refusal .given .1) (reported .band-first-report .ensures) (c .number .ensures))
 
 pub contour-band-first-report-spec : {M : Type 1} → statement M
 contour-band-first-report-spec =
     tie.close
     (tie.spec
+    rule-of-requires
     band-first-report-requires
     enum-known-drawn
     enum-known-refusal

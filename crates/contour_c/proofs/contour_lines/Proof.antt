@@ -6,6 +6,9 @@ use borrow.Author.Needs.{needs}
 use Rattle.contour_c.proofs.contour_lines.Statement.{statement}
 use Rattle.contour_c.proofs.contour_lines.Tie as tie
 
+level-of-requires : tie.Need-level-of-requires
+level-of-requires c κs = search needs
+
 contour-lines-requires : tie.Need-contour-lines-requires
 contour-lines-requires c κs = search needs
 
@@ -32,7 +35,9 @@ same-length-4 c = search needs
 
 returns : tie.Need-returns
 unfolding asked placingOf
-returns c = rings-given _ _ _ (c .before .count .given .1) (c .before .before .before .before .before .before .before .before .before .before .before .contour-lines .ensures)
+returns c =
+    let built = c .before .before .before .before .before .before .before .before .before .before .before in
+    rw (← built .before .before .before .before .before .level-of .ensures) (rings-given _ _ _ (c .before .count .given .1) (built .contour-lines .ensures))
 
 same-length-5 : tie.Need-same-length-5
 same-length-5 c = search needs
@@ -48,12 +53,15 @@ same-length-8 c = search needs
 
 returns-2 : tie.Need-returns-2
 unfolding asked placingOf
-returns-2 c = rings-kept _ _ _ _ (c .before .before .refusal .given .1) (c .number .ensures) (c .before .before .before .before .before .before .before .before .before .before .before .before .contour-lines .ensures)
+returns-2 c =
+    let built = c .before .before .before .before .before .before .before .before .before .before .before .before in
+    rw (← built .before .before .before .before .before .level-of .ensures) (rings-kept _ _ _ _ (c .before .before .refusal .given .1) (c .number .ensures) (built .contour-lines .ensures))
 
 pub contour-lines-spec : {M : Type 1} → statement M
 contour-lines-spec =
     tie.close
     (tie.spec
+    level-of-requires
     contour-lines-requires
     enum-known-count
     enum-known-refusal

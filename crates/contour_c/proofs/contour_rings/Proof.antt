@@ -4,6 +4,9 @@ use borrow.Author.Needs.{needs}
 use Rattle.contour_c.proofs.contour_rings.Statement.{statement}
 use Rattle.contour_c.proofs.contour_rings.Tie as tie
 
+level-of-requires : tie.Need-level-of-requires
+level-of-requires c κs = search needs
+
 contour-rings-requires : tie.Need-contour-rings-requires
 contour-rings-requires c κs = search needs
 
@@ -29,7 +32,9 @@ same-length-4 : tie.Need-same-length-4
 same-length-4 c = search needs
 
 returns : tie.Need-returns
-returns c = rings-given _ _ _ (c .before .count .given .1) (c .before .before .before .before .before .before .before .before .before .before .before .contour-rings .ensures)
+returns c =
+    let built = c .before .before .before .before .before .before .before .before .before .before .before in
+    rw (← built .before .before .before .before .before .level-of .ensures) (rings-given _ _ _ (c .before .count .given .1) (built .contour-rings .ensures))
 
 same-length-5 : tie.Need-same-length-5
 same-length-5 c = search needs
@@ -44,12 +49,15 @@ same-length-8 : tie.Need-same-length-8
 same-length-8 c = search needs
 
 returns-2 : tie.Need-returns-2
-returns-2 c = rings-kept _ _ _ _ (c .before .before .refusal .given .1) (c .number .ensures) (c .before .before .before .before .before .before .before .before .before .before .before .before .contour-rings .ensures)
+returns-2 c =
+    let built = c .before .before .before .before .before .before .before .before .before .before .before .before in
+    rw (← built .before .before .before .before .before .level-of .ensures) (rings-kept _ _ _ _ (c .before .before .refusal .given .1) (c .number .ensures) (built .contour-rings .ensures))
 
 pub contour-rings-spec : {M : Type 1} → statement M
 contour-rings-spec =
     tie.close
     (tie.spec
+    level-of-requires
     contour-rings-requires
     enum-known-count
     enum-known-refusal

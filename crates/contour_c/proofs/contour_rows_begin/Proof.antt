@@ -4,6 +4,9 @@ use borrow.Author.Needs.{needs}
 use Rattle.contour_c.proofs.contour_rows_begin.Statement.{statement}
 use Rattle.contour_c.proofs.contour_rows_begin.Tie as tie
 
+level-of-requires : tie.Need-level-of-requires
+level-of-requires c κs = search needs
+
 begin-requires : tie.Need-begin-requires
 begin-requires c κs = search needs
 
@@ -12,8 +15,9 @@ settle-requires c κs = search needs
 
 returns : tie.Need-returns
 returns c =
-    let start = c .before .before .before .before in
-    begun-entry _ (start .args .state .now) _ _ (c .before .before .before .begin .ensures) (c .settle .ensures .0) (c .settle .ensures .1 .0)
+    let begun = c .before .before .before in
+    let start = begun .before .before in
+    rw (← begun .before .level-of .ensures) (begun-entry _ (start .args .state .now) _ _ (begun .begin .ensures) (c .settle .ensures .0) (c .settle .ensures .1 .0))
 
 pub contour-rows-begin-spec : {M : Type 1} → statement M
-contour-rows-begin-spec = tie.close (tie.spec begin-requires settle-requires returns)
+contour-rows-begin-spec = tie.close (tie.spec level-of-requires begin-requires settle-requires returns)

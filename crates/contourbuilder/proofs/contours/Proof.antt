@@ -22,7 +22,7 @@ cast-pack : tie.Need-cast-pack
 cast-pack c =
     let start = c .before .before .before .before .before .before .before .before .before .before .before .before .before .before .before in
     let facts = done-facts _ _ _ _ _ _ _ _ (c .before .drawing .given .1) _ _ (c .before .before .before .before .before .before .before .run-pass .ensures) in
-    omega (arith, columns-fit (start .args .values .now) (start .args .level .threshold) _ _ (facts .sized))
+    omega (arith, columns-fit (start .args .values .now) (start .args .level) _ _ (facts .sized))
 
 pack-requires : tie.Need-pack-requires
 pack-requires c κs = search needs

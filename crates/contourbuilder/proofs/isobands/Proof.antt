@@ -20,14 +20,14 @@ band-over-requires c κs =
     let known = c .before .before .before .before .before in
     let found = known .before .before in
     let start = found .before .before .before .before .before .before .before in
-    paired _ _ _ (start .args .k) (start .args .thresholds .now) _ _ _ (known .lower .given .1) (found .band-pair .ensures) .grid
+    paired _ _ _ (start .args .k) (start .args .thresholds .now) (start .args .rule) _ _ _ (known .lower .given .1) (found .band-pair .ensures) .grid
 
 returns : tie.Need-returns
 returns c =
     let known = c .before in
     let found = known .before .before in
     let start = found .before .before .before .before .before .before .before in
-    isobands-unfit _ _ (pair-refused _ _ _ (start .args .k) (start .args .thresholds .now) _ _ (known .refusal .given .1) (found .band-pair .ensures)) _ _ _ _ _ _ _ _
+    isobands-unfit _ _ (pair-refused _ _ _ (start .args .k) (start .args .thresholds .now) (start .args .rule) _ _ (known .refusal .given .1) (found .band-pair .ensures)) _ _ _ _ _ _ _ _
 
 same-length : tie.Need-same-length
 same-length c = search needs
@@ -47,7 +47,7 @@ returns-2 c =
     let known = built .before .before .before .before .before .before in
     let found = known .before .before in
     let start = found .before .before .before .before .before .before .before in
-    let facts = paired _ _ _ (start .args .k) (start .args .thresholds .now) _ _ _ (known .lower .given .1) (found .band-pair .ensures) in
+    let facts = paired _ _ _ (start .args .k) (start .args .thresholds .now) (start .args .rule) _ _ _ (known .lower .given .1) (found .band-pair .ensures) in
     rw (facts .fits, ← facts .lower-is, ← facts .upper-is) (built .band-over .ensures)
 
 pub isobands-spec : {M : Type 1} → statement M

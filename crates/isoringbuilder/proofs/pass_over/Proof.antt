@@ -58,7 +58,7 @@ returns-3 c =
     let open-need = fits .before .before .before .open-words .ensures ∙ ap (λ (k : Counts). openWords (start .args .dx) (k .peak)) (counts .scan .ensures .0) in
     let link-need = fits .before .link-words .ensures ∙ ap (λ (k : Counts). linkWords (k .segments)) (counts .scan .ensures .0) in
     rw (counts .scan .ensures .0)
-    (done (start .args .values .now) (start .args .level .threshold) (start .args .dx) (start .args .dy) (start .args .lines .now) (start .args .links .now) (start .pre)
+    (done (start .args .values .now) (start .args .level) (start .args .dx) (start .args .dy) (start .args .lines .now) (start .args .links .now) (start .pre)
     (omega (arith, open-need, fits .before .before .if1 .left)) (omega (arith, link-need, fits .if2 .left)) _ _ _ (at-stitch .stitch .ensures))
 
 pub pass-over-spec : {M : Type 1} → statement M

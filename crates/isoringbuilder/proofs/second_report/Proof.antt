@@ -24,7 +24,7 @@ add-points c =
     let start = c .before .before .before .before .before .before .before .before .before .before .before .before .before in
     let facts = done-facts _ _ _ _ _ _ _ _ (c .before .drawing .given .1) _ _ (c .before .before .before .before .before .before .before .run-pass .ensures) in
     let sum = ap (λ (d : Drawing). d .segments + d .rings) (facts .is-drawing) in
-    omega (arith, sum, points-fit (start .args .values .now) (start .args .level .threshold) _ _ (facts .sized))
+    omega (arith, sum, points-fit (start .args .values .now) (start .args .level) _ _ (facts .sized))
 
 open-words-requires : tie.Need-open-words-requires
 open-words-requires c κs = done-facts _ _ _ _ _ _ _ _ (c .before .before .drawing .given .1) _ _ (c .before .before .before .before .before .before .before .before .run-pass .ensures) .sized .columns

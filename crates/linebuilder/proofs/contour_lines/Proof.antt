@@ -22,21 +22,21 @@ cast-plot c =
     let at-drawing = c .before in
     let at-pass = at-drawing .before .before .before .before .before .before in
     let start = at-pass .before .before .before .before .before .before .before .before in
-    omega (arith, columns-fit (start .args .values .now) (start .args .level .threshold) _ _ (done-facts _ _ _ _ _ _ _ _ (at-drawing .drawing .given .1) _ _ (at-pass .run-pass .ensures) .sized))
+    omega (arith, columns-fit (start .args .values .now) (start .args .level) _ _ (done-facts _ _ _ _ _ _ _ _ (at-drawing .drawing .given .1) _ _ (at-pass .run-pass .ensures) .sized))
 
 cast-plot-2 : tie.Need-cast-plot-2
 cast-plot-2 c =
     let at-drawing = c .before in
     let at-pass = at-drawing .before .before .before .before .before .before in
     let start = at-pass .before .before .before .before .before .before .before .before in
-    omega (arith, rows-fit (start .args .values .now) (start .args .level .threshold) _ _ (done-facts _ _ _ _ _ _ _ _ (at-drawing .drawing .given .1) _ _ (at-pass .run-pass .ensures) .sized))
+    omega (arith, rows-fit (start .args .values .now) (start .args .level) _ _ (done-facts _ _ _ _ _ _ _ _ (at-drawing .drawing .given .1) _ _ (at-pass .run-pass .ensures) .sized))
 
 plot-requires : tie.Need-plot-requires
 plot-requires c κs =
     let at-drawing = c .before .before .before .before in
     let at-pass = at-drawing .before .before .before .before .before .before in
     let start = at-pass .before .before .before .before .before .before .before .before in
-    omega (arith, columns-fit (start .args .values .now) (start .args .level .threshold) _ _ (done-facts _ _ _ _ _ _ _ _ (at-drawing .drawing .given .1) _ _ (at-pass .run-pass .ensures) .sized))
+    omega (arith, columns-fit (start .args .values .now) (start .args .level) _ _ (done-facts _ _ _ _ _ _ _ _ (at-drawing .drawing .given .1) _ _ (at-pass .run-pass .ensures) .sized))
 
 open-words-requires : tie.Need-open-words-requires
 open-words-requires c κs =

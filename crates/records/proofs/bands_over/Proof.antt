@@ -7,7 +7,7 @@ use Rattle.records.proofs.bands_over.Tie as tie
 returns : tie.Need-returns
 returns c =
     let called = c .before .before .before .before .before .before .before .before .isobands in
-    over-words _ _ (called .last .1 .1 .1 .1 .1 .1 .1 .1 .0) (c .before .before .before .before .before .before .before .before .before .before .before .before .before .lent-words .ensures) (called .kept .1 .1 .1 .1 .1 .1 .1 .1 .0) (called .ensures) (band-rings-fit _ _ _ _ _ _ _ (called .ensures .answers))
+    over-words _ _ (called .last .1 .1 .1 .1 .1 .1 .1 .1 .1 .0) (c .before .before .before .before .before .before .before .before .before .before .before .before .before .lent-words .ensures) (called .kept .1 .1 .1 .1 .1 .1 .1 .1 .1 .0) (called .ensures) (band-rings-fit _ _ _ _ _ _ _ (called .ensures .answers))
 
 pub bands-over-spec : {M : Type 1} → statement M
 bands-over-spec =

@@ -30,8 +30,8 @@ use denote.Triple.Spec.{tripleOf}
 use denote.Triple.Table.{entered, cited}
 use denote.Triple.Walked.{says, ends-at}
 use denote.Signature.{plain, typesAt}
-use Rattle.cells.specs.declared.Level.{Level}
-use Rattle.cells.proofs.Level as Level′
+use Rattle.scope.specs.declared.Level.{Level}
+use Rattle.scope.proofs.Level as Level′
 use Rattle.isoringbuilder.specs.declared.Built.{Built}
 use Rattle.smoothing.specs.declared.Placement.{Placement}
 use Rattle.smoothing.specs.Values.{placingOf}
@@ -113,7 +113,7 @@ module _ {M : Type 1} (𝓤 : URA M) (H : Heap 𝓤) (A : Atoms 𝓤) (W : Given
 
   -- what the word form ensures
   abbrev Words : List ℕ → List ℕ → List (f64 .Denot) → Built → List ℕ → List ℕ → Type 0
-  Words lines′ links′ points′ answer directory directory′ = LinesBuilt (values .now) (level .threshold) dx dy smooth (placingOf placement) (lines .now) (links .now) (points .now) directory answer lines′ links′ points′ directory′
+  Words lines′ links′ points′ answer directory directory′ = LinesBuilt (values .now) level dx dy smooth (placingOf placement) (lines .now) (links .now) (points .now) directory answer lines′ links′ points′ directory′
 
   walk : ent 𝓤 (onEntry 𝓤 H A entry.signature κs qs a (passed entry.ended ps κs a))
       (WpFn 𝓤 H (𝓣 .C) (𝓣 .Λ) code.function (words entry.ended ps κs a) (Out entry.ended ps 𝓤 H A (entry.clauses 𝓤 H A mem run) κs qs tt a tt))

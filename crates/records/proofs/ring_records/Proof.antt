@@ -29,8 +29,8 @@ use denote.Triple.Spec.{tripleOf}
 use denote.Triple.Table.{entered, cited}
 use denote.Triple.Walked.{says, ends-at}
 use denote.Signature.{plain, typesAt}
-use Rattle.cells.specs.declared.Level.{Level}
-use Rattle.cells.proofs.Level as Level′
+use Rattle.scope.specs.declared.Level.{Level}
+use Rattle.scope.proofs.Level as Level′
 use Rattle.isoringbuilder.specs.declared.Built.{Built}
 use Rattle.isoringbuilder.specs.Answers.{RingsBuilt}
 use Rattle.ringrecord.specs.declared.RingRecord.{RingRecord}
@@ -103,7 +103,7 @@ module _ {M : Type 1} (𝓤 : URA M) (H : Heap 𝓤) (A : Atoms 𝓤) (W : Given
 
   -- what the word form ensures
   abbrev Words : List ℕ → List ℕ → List ℕ → Built → List ℕ → List ℕ → Type 0
-  Words lines′ links′ points′ answer directory directory′ = RingsBuilt (values .now) (level .threshold) dx dy (lines .now) (links .now) (points .now) directory answer lines′ links′ points′ directory′
+  Words lines′ links′ points′ answer directory directory′ = RingsBuilt (values .now) level dx dy (lines .now) (links .now) (points .now) directory answer lines′ links′ points′ directory′
 
   walk : ent 𝓤 (onEntry 𝓤 H A entry.signature κs qs a (passed entry.ended ps κs a))
       (WpFn 𝓤 H (𝓣 .C) (𝓣 .Λ) code.function (words entry.ended ps κs a) (Out entry.ended ps 𝓤 H A (entry.clauses 𝓤 H A mem run) κs qs tt a tt))

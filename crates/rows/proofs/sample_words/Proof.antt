@@ -3,7 +3,7 @@
 use Prim.Native.Nat.{_-_, _≤_}
 use native.Mathlib.Omega.{arith}
 use Rattle.scope.specs.Limits.{sideLimit}
-use Rattle.scope.specs.Terrain.{atLeast, terrain}
+use Rattle.scope.specs.Terrain.{aboveAt, terrain}
 use Rattle.scan.proofs.Samples.{terrain-outside}
 use Rattle.rows.specs.Called.{rowWords}
 use Rattle.rows.proofs.Samples.{Sampled, samples-begin, samples-go-on, samples-end}
@@ -11,7 +11,7 @@ use Rattle.rows.proofs.sample_words.Statement.{statement}
 use Rattle.rows.proofs.sample_words.Tie as tie
 
 abbrev Inv-loop : tie.InvT-loop
-Inv-loop values level dx row₀ w₀ row w = Sampled (terrain (atLeast (level .threshold)) values dx 1) w row × (w ≤ 65)
+Inv-loop values level dx row₀ w₀ row w = Sampled (terrain (aboveAt level) values dx 1) w row × (w ≤ 65)
 
 abbrev μ-loop : tie.MeasureT-loop
 μ-loop values level dx row₀ w₀ row w = 65 - w

@@ -11,7 +11,7 @@ use Rattle.rowstate.proofs.store_samples.Statement.{statement}
 use Rattle.rowstate.proofs.store_samples.Tie as tie
 
 abbrev Inv-loop : tie.InvT-loop
-Inv-loop above dx words₀ count w₀ words w = (samplesOut above dx words₀ ≡ sets words (10 + 2 * w) (halvesFrom above w (count - w))) × (count ≤ 65)
+Inv-loop above dx words₀ count w₀ words w = (samplesOut above dx words₀ ≡ sets words (11 + 2 * w) (halvesFrom above w (count - w))) × (count ≤ 65)
 
 abbrev μ-loop : tie.MeasureT-loop
 μ-loop above dx words₀ count w₀ words w = count - w

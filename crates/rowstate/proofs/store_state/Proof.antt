@@ -43,16 +43,23 @@ high-half-requires c κs = search needs
 element-write-words-10 : tie.Need-element-write-words-10
 element-write-words-10 c = search needs
 
+rule-number-requires : tie.Need-rule-number-requires
+rule-number-requires c κs = search needs
+
+element-write-words-11 : tie.Need-element-write-words-11
+element-write-words-11 c = search needs
+
 store-samples-requires : tie.Need-store-samples-requires
 store-samples-requires c κs = search needs
 
 returns : tie.Need-returns
 returns c =
-    let at-high = c .before .before .before .before in
+    let at-number = c .before .before .before .before in
+    let at-high = at-number .before .before in
     let at-low = at-high .before in
     let at-bits = at-low .before in
     let start = at-bits .before in
-    state-stored (start .args .t1) (start .args .words .now) _ _ _ (at-bits .bits-of .ensures) (at-low .low-half .ensures) (at-high .high-half .ensures) (c .store-samples .ensures)
+    state-stored (start .args .t1) (start .args .words .now) _ _ _ _ (at-bits .bits-of .ensures) (at-low .low-half .ensures) (at-high .high-half .ensures) (at-number .rule-number .ensures) (c .store-samples .ensures)
 
 pub store-state-spec : {M : Type 1} → statement M
 store-state-spec =
@@ -71,5 +78,7 @@ store-state-spec =
     element-write-words-9
     high-half-requires
     element-write-words-10
+    rule-number-requires
+    element-write-words-11
     store-samples-requires
     returns)

@@ -5,7 +5,7 @@ use Prim.Native.Nat.{suc, _-_, _≤_}
 use native.Mathlib.Numerals.{add-one}
 use native.Mathlib.Omega.{arith}
 use Rattle.scope.specs.Limits.{sideLimit}
-use Rattle.scope.specs.Terrain.{atLeast, terrain}
+use Rattle.scope.specs.Terrain.{aboveAt, terrain}
 use Rattle.scan.specs.Rows.{Kept, Marked}
 use Rattle.scan.specs.Scanned.{countsAfter}
 use Rattle.scan.proofs.Samples.{terrain-outside}
@@ -17,9 +17,9 @@ use Rattle.scan.proofs.scan.Tie as tie
 abbrev Inv-loop : tie.InvT-loop
 Inv-loop values level dx dy marks₀ row₀ counts₀ r₀ marks row counts r =
     (r ≤ suc dy)
-    × (counts ≡ countsAfter (terrain (atLeast (level .threshold)) values dx dy) dx r 0)
-    × Kept (terrain (atLeast (level .threshold)) values dx dy) r row
-    × Marked (terrain (atLeast (level .threshold)) values dx dy) r marks
+    × (counts ≡ countsAfter (terrain (aboveAt level) values dx dy) dx r 0)
+    × Kept (terrain (aboveAt level) values dx dy) r row
+    × Marked (terrain (aboveAt level) values dx dy) r marks
 
 abbrev μ-loop : tie.MeasureT-loop
 μ-loop values level dx dy marks₀ row₀ counts₀ r₀ marks row counts r = suc dy - r

@@ -5,7 +5,7 @@ use Prim.Native.Nat.{_*_, _-_, _≤_}
 use native.Mathlib.Omega.{arith}
 use borrow.Author.Needs.{needs}
 use Rattle.scope.specs.Limits.{sideLimit}
-use Rattle.scope.specs.Terrain.{atLeast, terrain}
+use Rattle.scope.specs.Terrain.{aboveAt, terrain}
 use Rattle.scan.specs.Scanned.{countsAfter}
 use Rattle.scan.proofs.Samples.{terrain-outside}
 use Rattle.scan.proofs.Rows.{Walked, walk-begins, walk-goes-on, walk-ends, pane-there, MarkedTo, row-begins, word-noted, row-ends}
@@ -15,9 +15,9 @@ use Rattle.scan.proofs.with_row.Tie as tie
 
 abbrev Inv-loop : tie.InvT-loop
 Inv-loop values level dx dy r row₀ marks₀ counts₀ upper₀ lower₀ w₀ row marks counts upper lower w =
-    Walked (terrain (atLeast (level .threshold)) values dx dy) r w row upper lower
-    × MarkedTo (terrain (atLeast (level .threshold)) values dx dy) r w marks
-    × (counts ≡ countsAfter (terrain (atLeast (level .threshold)) values dx dy) dx r (64 * w))
+    Walked (terrain (aboveAt level) values dx dy) r w row upper lower
+    × MarkedTo (terrain (aboveAt level) values dx dy) r w marks
+    × (counts ≡ countsAfter (terrain (aboveAt level) values dx dy) dx r (64 * w))
     × (w ≤ 65)
 
 abbrev μ-loop : tie.MeasureT-loop

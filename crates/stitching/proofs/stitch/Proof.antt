@@ -7,7 +7,7 @@ use native.Mathlib.Omega.{arith}
 use lib.ListN.{length}
 use borrow.Author.Needs.{needs}
 use Rattle.scope.specs.Limits.{sideLimit}
-use Rattle.scope.specs.Terrain.{atLeast, terrain}
+use Rattle.scope.specs.Terrain.{aboveAt, terrain}
 use Rattle.scan.specs.Rows.{Kept}
 use Rattle.scan.proofs.Samples.{terrain-outside}
 use Rattle.scan.proofs.Rows.{no-words-above}
@@ -20,8 +20,8 @@ use Rattle.stitching.proofs.stitch.Tie as tie
 abbrev Inv-loop : tie.InvT-loop
 Inv-loop values level dx dy marks lines₀ links₀ row₀ run₀ r₀ lines links row run r =
     (r ≤ suc dy)
-    × (runOf lines links run ≡ runAfter (terrain (atLeast (level .threshold)) values dx dy) dx (runOver lines₀ links₀) r 0)
-    × Kept (terrain (atLeast (level .threshold)) values dx dy) r row
+    × (runOf lines links run ≡ runAfter (terrain (aboveAt level) values dx dy) dx (runOver lines₀ links₀) r 0)
+    × Kept (terrain (aboveAt level) values dx dy) r row
     × (length lines ≡ length lines₀)
     × (length links ≡ length links₀)
 

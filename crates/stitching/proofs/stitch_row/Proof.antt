@@ -6,7 +6,7 @@ use native.Mathlib.Omega.{arith}
 use lib.ListN.{length}
 use borrow.Author.Needs.{needs}
 use Rattle.scope.specs.Limits.{sideLimit}
-use Rattle.scope.specs.Terrain.{atLeast, terrain}
+use Rattle.scope.specs.Terrain.{aboveAt, terrain}
 use Rattle.scan.proofs.Samples.{terrain-outside}
 use Rattle.scan.proofs.Rows.{Walked, walk-begins, walk-goes-on, walk-goes-over, walk-ends, pane-there, a-tile-has-a-mark}
 use Rattle.drawing.specs.Values.{runOf}
@@ -17,8 +17,8 @@ use Rattle.stitching.proofs.stitch_row.Tie as tie
 
 abbrev Inv-loop : tie.InvT-loop
 Inv-loop values level dx dy r row₀ marks lines₀ links₀ run₀ upper₀ lower₀ w₀ row lines links run upper lower w =
-    Walked (terrain (atLeast (level .threshold)) values dx dy) r w row upper lower
-    × (runOf lines links run ≡ rowDrawn (terrain (atLeast (level .threshold)) values dx dy) dx (runOf lines₀ links₀ run₀) r (64 * w))
+    Walked (terrain (aboveAt level) values dx dy) r w row upper lower
+    × (runOf lines links run ≡ rowDrawn (terrain (aboveAt level) values dx dy) dx (runOf lines₀ links₀ run₀) r (64 * w))
     × (w ≤ 65)
     × (length lines ≡ length lines₀)
     × (length links ≡ length links₀)

@@ -1,37 +1,34 @@
--- `words::whole_word` meets its contract: two halves of thirty-two samples are the whole, and fit a word. Assumes nothing.
-use Prim.Native.Nat.{_+_}
-use native.Mathlib.Omega.{arith}
+-- `words::whole_word` meets its contract: in each arm the rule that is handed on is the level's. Assumes nothing.
 use borrow.Author.Needs.{needs}
-use Rattle.scope.specs.Terrain.{atLeast}
-use Rattle.words.proofs.Packing.{halves, half-small}
+use Rattle.words.proofs.Ruled.{by-its-rule}
 use Rattle.words.proofs.whole_word.Statement.{statement}
 use Rattle.words.proofs.whole_word.Tie as tie
 
-thirty-two-requires : tie.Need-thirty-two-requires
-thirty-two-requires c κs = search needs
+enum-told : tie.Need-enum-told
+enum-told c = search needs
 
-add-thirty-two : tie.Need-add-thirty-two
-add-thirty-two c = search needs
+sixty-four-requires : tie.Need-sixty-four-requires
+sixty-four-requires c κs = search needs
 
-thirty-two-requires-2 : tie.Need-thirty-two-requires-2
-thirty-two-requires-2 c κs = search needs
+enum-told-2 : tie.Need-enum-told-2
+enum-told-2 c = search needs
 
-mul-result : tie.Need-mul-result
-mul-result c =
-    let start = c .before .before .before in
-    omega (arith, half-small (atLeast (start .args .level .threshold)) (start .args .values .now) (start .args .i + 32) 32 (c .thirty-two2 .ensures))
-
-add-result : tie.Need-add-result
-add-result c =
-    let start = c .before .before .before in
-    let rule = atLeast (start .args .level .threshold) in
-    let values = start .args .values .now in
-    omega (arith, half-small rule values (start .args .i) 32 (c .before .thirty-two .ensures), half-small rule values (start .args .i + 32) 32 (c .thirty-two2 .ensures))
+sixty-four-requires-2 : tie.Need-sixty-four-requires-2
+sixty-four-requires-2 c κs = search needs
 
 returns : tie.Need-returns
 returns c =
-    let start = c .before .before .before in
-    halves (atLeast (start .args .level .threshold)) (start .args .values .now) (start .args .i) 32 (c .before .thirty-two .ensures) (c .thirty-two2 .ensures)
+    let told = c .before in
+    let args = told .before .before .before .args in
+    by-its-rule (args .values .now) (args .level) (args .i) 64 (told .enum-told .given .1) (c .sixty-four .ensures)
+
+returns-2 : tie.Need-returns-2
+returns-2 c =
+    let told = c .before in
+    let args = told .before .before .before .args in
+    by-its-rule (args .values .now) (args .level) (args .i) 64 (told .enum-told2 .given .1) (c .sixty-four2 .ensures)
 
 pub whole-word-spec : {M : Type 1} → statement M
-whole-word-spec = tie.close (tie.spec thirty-two-requires add-thirty-two thirty-two-requires-2 mul-result add-result returns)
+whole-word-spec =
+    tie.close
+    (tie.spec enum-told sixty-four-requires enum-told-2 sixty-four-requires-2 returns returns-2)

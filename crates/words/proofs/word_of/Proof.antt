@@ -4,19 +4,19 @@ use mathlib.Core.Path.{_≡_}
 use Prim.Native.Nat.{_%_}
 use native.Mathlib.Omega.{arith}
 use borrow.Author.Needs.{needs}
-use Rattle.scope.specs.Terrain.{atLeast}
+use Rattle.scope.specs.Terrain.{aboveAt}
 use Rattle.words.proofs.Packing.{Holds, holds-none, holds-more, holds-one, holds-fits, holds-room, holds-all}
 use Rattle.words.proofs.word_of.Statement.{statement}
 use Rattle.words.proofs.word_of.Tie as tie
 
 abbrev Inv-loop : tie.InvT-loop
-Inv-loop values level i n word₀ left₀ word left = Holds (atLeast (level .threshold)) values i n left word
+Inv-loop values level i n word₀ left₀ word left = Holds (aboveAt level) values i n left word
 
 abbrev μ-loop : tie.MeasureT-loop
 μ-loop values level i n word₀ left₀ word left = left
 
 abbrev Inv-loop2 : tie.InvT-loop2
-Inv-loop2 values level i n word₀ left₀ word left = Holds (atLeast (level .threshold)) values i n left word × left % 8 ≡ 0
+Inv-loop2 values level i n word₀ left₀ word left = Holds (aboveAt level) values i n left word × left % 8 ≡ 0
 
 abbrev μ-loop2 : tie.MeasureT-loop2
 μ-loop2 values level i n word₀ left₀ word left = left

@@ -135,7 +135,7 @@ module _ {M : Type 1} (𝓤 : URA M) (H : Heap 𝓤) (A : Atoms 𝓤) (W : Given
         tt,
       )
       (‵ (flft (κs .0) (qs .0)) ⊛ (‵ (flft (κs .1 .0) (qs .1 .0)) ⊛ (‵ (flft (κs .1 .1 .0) (qs .1 .1 .0)) ⊛ (‵ (flft (κs .1 .1 .1 .0) (qs .1 .1 .1 .0)) ⊛ (‵ (flft (κs .1 .1 .1 .1 .0) (qs .1 .1 .1 .1 .0)) ⊛ (‵ (flft (ν ∷ []) fullShare) ⊛ ‵ ftrue)))))) refl (id⊢ 𝓤 (emp 𝓤)) built-kind
-      (λ r ws. OverRecords (λ words words′. RingsBuilt (a .0 .now) (a .1 .0 .threshold) (a .1 .1 .0) (a .1 .1 .1 .0) (lines .now) (links .now) (points .now) words r (ws .1 .1 .1 .1 .0) (ws .1 .1 .1 .1 .1 .0) (ws .1 .1 .1 .1 .1 .1 .0) words′)
+      (λ r ws. OverRecords (λ words words′. RingsBuilt (a .0 .now) (a .1 .0) (a .1 .1 .0) (a .1 .1 .1 .0) (lines .now) (links .now) (points .now) words r (ws .1 .1 .1 .1 .0) (ws .1 .1 .1 .1 .1 .0) (ws .1 .1 .1 .1 .1 .1 .0) words′)
       (ringsIn r) (directory .now) (ws .1 .1 .1 .1 .1 .1 .1 .0) (take n soiled) (ws .1 .1 .1 .1 .1 .1 .1 .1 .0)) (λ r ws. refl)
       (and-then ! (var ! (L 1 1) refl) (and-then ! (var ! (L 1 2) refl) (and-then ! (var ! (L 1 3) refl) (and-then ! (var ! (L 1 4) refl) (and-then ! (var ! (L 1 15) refl) (and-then ! (var ! (L 1 17) refl) (and-then ! (var ! (L 1 19) refl) (and-then ! (var ! (L 1 21) refl) (and-then ! (var ! (L 1 23) refl) (no-more !)))))))))) (λ r ws e r-is.
       -- [what the answer owns; what is said of the last values; the tokens; the locals]
