@@ -206,6 +206,48 @@ DRAWN = [
     (PLATE, "1 --levels", collection(
         feature('"value":1,"area":32,"polygons":1', polygon(PLATE_OUT, PLATE_HOLE)))),
     (PLATE, "1 --origin 0,0 --step 2,2", polygon(turned(PLATE_OUT), turned(PLATE_HOLE))),
+    # Strictly above: a sample that equals a threshold is in no region of it, and one that equals HIGH is in the band.
+    ("5", "5 --above", NONE),
+    ("5", "--above 4", ONE),
+    ("5", "4 5 --above", ONE),
+    ("5", "5 6 --above", NONE),
+    ("inf", "inf --above", NONE),
+    ("inf", "-inf inf --above", ONE),
+    ("-inf", "-inf inf --above", NONE),
+    ("-inf", "-inf --above", NONE),
+    ("-0.0 0", "0 --above", NONE),
+    ("0 -0.0", "-0.0 --above", NONE),
+    ("nan 5 nan", "-inf --above --counts", DIAMOND),
+    ("nan 5 nan", "-inf inf --above --counts", DIAMOND),
+    (HEADER + ROWS, "0 --above", polygon(ON_MAP)),
+    (HEADER + ROWS, "0 1 --above --grid", ONE),
+    ("1 4", "1 --lines --above", line(*SECOND)),
+    ("1 4", "1 --lines --smooth --above", line((2, 0.5), (1.5, 0), (0.5, 0.5), (1.5, 1), (2, 0.5))),
+    ("1 1 1\n1 2 1\n1 1 1", "0 1 --isobands --above --counts", "polygons 1\nholes 1\ndropped 0\nvertices 18\n"),
+    ("1", "0 1 --isobands --above", ONE),
+    ("1", "0 1 --isobands --above --counts", DIAMOND),
+    ("1 2", "1 2 --levels --above", collection(
+        feature('"value":1,"rule":">","area":0.5,"polygons":1', polygon(SECOND)),
+        feature('"value":2,"rule":">","area":0,"polygons":0', NONE))),
+    ("1 2", "0 1 inf --bands --above", collection(
+        feature('"low":0,"high":1,"rule":">","area":0.5,"polygons":1', polygon(UPPER_LEFT)),
+        feature('"low":1,"high":null,"rule":">","area":0.5,"polygons":1', polygon(SECOND)))),
+    ("1 2", "--interval 1 --above", collection(
+        feature('"value":1,"rule":">","area":0.5,"polygons":1', polygon(SECOND)))),
+    ("1 2", "--interval 1 --lines --above", collection(feature('"value":1,"rule":">","lines":1', line(*SECOND)))),
+    ("0.1 0.3", "--interval 0.1 --above --counts", f"value 0.1\n{DIAMOND}value 0.2\n{DIAMOND}"),
+    ("1 2", "--interval 1 --bands --above --counts", f"low 0\nhigh 1\n{DIAMOND}low 1\nhigh 2\n{DIAMOND}"),
+    ("5", "--interval 5 --bands --above --counts", f"low 0\nhigh 5\n{DIAMOND}"),
+    ("5", "--interval 5 --above", '{"type":"FeatureCollection","features":[\n]}\n'),
+    ("5", "5 --above --stream", ""),
+    ("1 2", "1 --above --stream", closed('"value":1,"rule":">"', 0, 0.5, SECOND)),
+    ("5", "4 5 --above --stream", closed('"low":4,"high":5,"rule":">"', 0, 0.5, UPPER_LEFT)),
+    ("5", "5 6 --above --stream", ""),
+    ("1 2", "0 1 --levels --above --stream", closed('"value":0,"rule":">"', 0, 1.5, BOTH) + closed(
+        '"value":1,"rule":">"', 0, 0.5, SECOND)),
+    (PLATE, "0 --above --why", TABLE_HEAD + "     0  hole          1       5\n     1  polygon       1      13\n"),
+    (PLATE, "--above 0 --why 1", is_polygon(1, 8.5)),
+    ("5", "5 --above --why", TABLE_HEAD),
     # As they close: the plate's hole first, of an area below 0; all rings run as the library gives them.
     ("1", "1 --stream", CORNER),
     ("1", "9 --stream", ""),
@@ -245,6 +287,27 @@ DRAWN = [
 # Words that ask for ring 1 of the plate, and words that ask for all rings.
 ASKING_FOR_ONE = ["- 1 --why 1", "- 1 --why=1", "--why 1 - 1", "- --why 1 1", "--why=1 -- - 1", "- 1 --why 7 --why 1"]
 ASKING_FOR_ALL = ["- 1 --why", "--why - 1", "- --why -- 1", "--why --grid - 1"]
+
+# Thresholds, and options with which they are drawn.
+FORMS = [
+    ([2], ""),
+    ([2], "--step 2,-2"),
+    ([2], "--counts"),
+    ([2], "--lines"),
+    ([2], "--stream"),
+    ([2], "--why"),
+    ([1, 3], ""),
+    ([1, 3], "--step 2,-2"),
+    ([1, 3], "--isobands"),
+    ([1, 3], "--lines"),
+    ([1, 3], "--stream"),
+    ([0, 2, 3], "--levels"),
+    ([0, 2, 3], "--levels --lines"),
+    ([0, 2, 3], "--levels --stream"),
+    ([0, 2, 3], "--bands"),
+    ([0, 2, 3], "--bands --isobands"),
+    ([0, 2, 3], "--bands --stream"),
+]
 
 # What of a stream is printed before a fault is met, and what the message says.
 BROKEN_OFF = [
@@ -308,6 +371,7 @@ FAILING = [
     (PLATE, "1 --why 2", "there is no ring 2: the contour has the rings 0 to 1\n"),
     ("5", "5 --why 1", "there is no ring 1: the contour has ring 0 alone\n"),
     ("5", "9 --why 0", "there is no ring 0: the contour has none\n"),
+    ("5", "5 --above --why 0", "there is no ring 0: the contour has none\n"),
     ("5", "5 --why 4294967296", "there is no ring 4294967296: the contour has ring 0 alone\n"),
     ("5", "5 --why 99999999999999999999", "there is no ring 18446744073709551615: the contour has ring 0 alone\n"),
     ("1 2\n3\n", "1 --why 0", "line 2, column 2: the row ends after 1 of 2 numbers"),
@@ -342,6 +406,10 @@ MISUSED = [
     ("- --interval 0", "--interval wants a number above 0, not '0'"),
     ("- --interval inf", "--interval wants a number, not 'inf'"),
     ("- --interval", "--interval wants N"),
+    ("--above", "FILE and THRESHOLD are missing"),
+    ("- --above", "THRESHOLD is missing"),
+    ("- 1 --above=2", "--above takes no value"),
+    ("- 5 5 --above", "LOW is not below HIGH: 5 and 5"),
     ("- 1 --isobands", "--isobands goes with LOW and HIGH, or --bands"),
     ("- 1 2 --isobands --lines", "--isobands and --lines exclude each other"),
     ("- 1 --colour", "there is no option --colour"),

@@ -7,21 +7,25 @@ DRAW is the program, ROOT the top of the repository, FOLDER takes files. The las
 """
 
 import json
+import math
 import os
 import pathlib
 import random
+import re
 import select
 import subprocess
 import sys
 import xml.etree.ElementTree
 
 import draw_why
-from draw_cases import ASKING_FOR_ALL, ASKING_FOR_ONE, BROKEN_OFF, DRAWN, FAILING, FRAMES, GRIDS, MISUSED, NO_DATA
-from draw_cases import PLATE, STREAM_SAYS
+from draw_cases import ASKING_FOR_ALL, ASKING_FOR_ONE, BROKEN_OFF, DRAWN, FAILING, FORMS, FRAMES, GRIDS, MISUSED
+from draw_cases import NO_DATA, PLATE, STREAM_SAYS
 
 SVG = "{http://www.w3.org/2000/svg}"
 # What GDAL and the converters are called, which are left out of the path at times.
 OTHERS = ["gdal_translate", "rsvg-convert", "inkscape", "magick"]
+# The heights of a feature, and their rule.
+HEIGHTS = re.compile(rb'"(value|low|high|rule)":[^,]*,')
 
 
 class Tests:
@@ -99,6 +103,28 @@ class Tests:
             same &= [ring["properties"]["ring"] for ring in drawn] == list(range(len(drawn)))
             same &= sum(ring["properties"]["area"] for ring in drawn) == polygons["properties"]["area"]
         return same
+
+    def strictly_above(self):
+        """A sample is more than a threshold exactly when it is at least the next larger float, so --above draws what
+        is drawn there without it, in pictures too."""
+        numbers = random.Random(4)
+        for k in range(8):
+            dx, dy = numbers.randint(2, 12), numbers.randint(2, 12)
+            given = "\n".join(" ".join(str(numbers.randint(0, 4)) for _ in range(dx)) for _ in range(dy))
+            for levels, options in FORMS:
+                both = self.above_and_next(levels, options)
+                above, plain = (self.run(words, given) for words in both)
+                same = above[0] == plain[0] == 0 and HEIGHTS.sub(b"", above[1]) == HEIGHTS.sub(b"", plain[1])
+                yield f"terrain {k}, {levels} {options} --above", same
+            for options in ["--levels --svg", "--bands --svg", "--levels --lines --svg"]:
+                both = self.above_and_next([0, 2, 3], options)
+                above, plain = ([path.attrib for path in self.picture(words, given)[2]] for words in both)
+                yield f"terrain {k}, {options} --above", above == plain != []
+
+    def above_and_next(self, levels, options):
+        """The words that draw strictly above some levels, and those that draw at the next larger floats."""
+        larger = [repr(math.nextafter(level, math.inf)) for level in levels]
+        return ["-", *levels, *options.split(), "--above"], ["-", *larger, *options.split()]
 
     def whys(self):
         """However it is asked, what became of a ring is what document 01 makes of the rings, which --stream gives."""
@@ -222,6 +248,13 @@ class Tests:
         yield "darker is higher", [light(fill) for fill in fills] == sorted(map(light, fills), reverse=True)
         _, texts, _ = self.picture(f"{self.hill} 500 --svg --grid --title <&>")
         yield "a given title", texts[0] == "<&>" and {"0", "200", "50 cells"} <= set(texts)
+        _, texts, _ = self.picture(f"{self.hill} 200 300 --levels --svg --above")
+        legend = ["above 300", "above 200 to 300", "200 and below"]
+        yield "a legend of what is above", [text for text in texts if text in legend] == legend
+        _, texts, _ = self.picture(f"{self.hill} 500 --svg --above")
+        yield "a title of what is above", texts[0] == "hill.asc, above 500"
+        _, texts, _ = self.picture(f"{self.hill} 200 300 --svg --above")
+        yield "a title of a band above", texts[0] == "hill.asc, above 200 to 300"
         for width, height in [(400, 300), (1000, 2000)]:
             picture, *_ = self.picture(f"{self.hill} 500 --svg --width {width} --height {height}")
             yield "a size", (picture.get("width"), picture.get("height")) == (str(width), str(height))
@@ -241,6 +274,8 @@ class Tests:
             yield "strokes below a cell", max(strokes) < 0.2 * 100 and columns in (1, 4)
         _, texts, drawn = self.picture("- 900 --svg", "1 2\n3 4")
         yield "no region", drawn == [] and "no such sample" in texts
+        _, texts, drawn = self.picture("- 5 --svg --above", "5")
+        yield "no region above", drawn == [] and "no such sample" in texts
         _, _, drawn = self.picture("- 5 --svg", "5")
         yield "one sample", [path.get("d").count("z") for path in drawn] == [1]
         _, _, drawn = self.picture("- 1 2 --svg --isobands", "2 2 2\n2 0 2\n1 2 2")
@@ -254,7 +289,7 @@ class Tests:
         yield "no converter", (status, out) == (1, b"") and "none is installed: rsvg-convert, inkscape, magick" in said
 
     def all(self):
-        parts = [self.answers, self.streams, self.at_once, self.whys, self.handed_through_gdal]
+        parts = [self.answers, self.streams, self.at_once, self.strictly_above, self.whys, self.handed_through_gdal]
         for part in [*parts, self.read_as_gdal_reads, self.pictures, self.odd_pictures, self.png]:
             yield from part()
 

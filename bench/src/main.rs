@@ -1,6 +1,7 @@
 //! Times our library, and beside it in one run and turn by turn the crate or our own rings, and the time to
 //! read the values once.
 
+mod both_rules;
 /// The functions of our library, declared once for all who call it from Rust.
 #[allow(dead_code)]
 #[path = "../../bindings/rust/src/ffi.rs"]
@@ -11,6 +12,10 @@ mod geojson;
 mod ours;
 #[cfg(feature = "rows")]
 mod rows;
+/// The rules, as compare has them.
+#[allow(dead_code)]
+#[path = "../../compare/src/rules.rs"]
+mod rules;
 mod terrains;
 mod texts;
 mod theirs;
@@ -45,6 +50,8 @@ fn main() {
         .filter(|(_, _, figure, _)| figure.is_in_library())
         .map(|line| bench(line, runs))
         .collect();
+    let both_rules = terrains::BOTH_RULES.into_iter();
+    closing.extend(both_rules.flat_map(|line| both_rules::bench(line, runs)));
     if cfg!(feature = "geojson") {
         closing.extend(terrains::TEXTS.map(|text| texts::bench(text, runs)));
     } else {

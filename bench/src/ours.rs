@@ -2,22 +2,23 @@
 //! drawn.
 
 use crate::declared::*;
+use crate::rules::{Rule, AT_LEAST};
 use crate::terrains::{Figure, Terrain};
 use std::ops::Range;
 
-/// Calls one of three functions, for rings, contours or a band, with a terrain and what else it takes. The
+/// Calls one of three functions, for rings, contours or a band, with a terrain, a rule and what else it takes. The
 /// last two are called only where the library has them.
 macro_rules! call {
-    ($terrain:expr, $figure:expr, [$rings:ident, $contours:ident, $band:ident], $($rest:expr),*) => {{
+    ($terrain:expr, $figure:expr, $rule:expr, [$rings:ident, $contours:ident, $band:ident], $($rest:expr),*) => {{
         let Terrain { dx, dy, ref values, .. } = *$terrain;
-        let (at, count) = (values.as_ptr(), values.len());
+        let (at, count, rule) = (values.as_ptr(), values.len(), $rule.0);
         let number = match $figure {
-            Figure::Rings(t) => unsafe { $rings(at, count, t, dx, dy, $($rest),*) },
+            Figure::Rings(t) => unsafe { $rings(at, count, t, rule, dx, dy, $($rest),*) },
             #[cfg(feature = "regions")]
-            Figure::Contours(t) => unsafe { $contours(at, count, t, dx, dy, $($rest),*) },
+            Figure::Contours(t) => unsafe { $contours(at, count, t, rule, dx, dy, $($rest),*) },
             #[cfg(feature = "regions")]
             Figure::Band(list) => unsafe {
-                $band(at, count, list.as_ptr(), list.len(), 0, dx, dy, $($rest),*)
+                $band(at, count, list.as_ptr(), list.len(), rule, 0, dx, dy, $($rest),*)
             },
             _ => unreachable!("no such entry in the library"),
         };
@@ -86,9 +87,8 @@ impl Drawn {
     }
 }
 
-/// Draws into tables allocated here. A ring has four segments or more, which bounds the rings before they
-/// are drawn. The report of lines is that of rings.
-pub fn draw(terrain: &Terrain, figure: Figure) -> Drawn {
+/// The first report: S and H. That of lines is that of rings.
+pub fn report(terrain: &Terrain, figure: Figure, rule: Rule) -> [usize; 2] {
     let (mut segments, mut peak) = (0, 0);
     let reported = match figure {
         Figure::Lines(threshold) => Figure::Rings(threshold),
@@ -97,6 +97,7 @@ pub fn draw(terrain: &Terrain, figure: Figure) -> Drawn {
     call!(
         terrain,
         reported,
+        rule,
         [
             contour_first_report,
             contour_first_report,
@@ -105,7 +106,18 @@ pub fn draw(terrain: &Terrain, figure: Figure) -> Drawn {
         &mut segments,
         &mut peak
     );
-    let (segments, peak) = (segments as usize, peak as usize);
+    [segments, peak].map(|count| count as usize)
+}
+
+/// Draws by "at least".
+pub fn draw(terrain: &Terrain, figure: Figure) -> Drawn {
+    draw_by(terrain, figure, AT_LEAST)
+}
+
+/// Draws into tables allocated here. A ring has four segments or more, which bounds the rings before they
+/// are drawn.
+pub fn draw_by(terrain: &Terrain, figure: Figure, rule: Rule) -> Drawn {
+    let [segments, peak] = report(terrain, figure, rule);
     let sets = figure.thresholds().len();
     let mut lines = vec![0; 4 * peak + terrain.dx + 2];
     let mut links = vec![0; 2 * segments];
@@ -123,13 +135,14 @@ pub fn draw(terrain: &Terrain, figure: Figure) -> Drawn {
         #[cfg(feature = "lines")]
         Points::Floats(floats) => {
             let tables = [&mut lines, &mut links, directory];
-            draw_lines(terrain, figure, tables, floats, rings);
+            draw_lines(terrain, figure, rule, tables, floats, rings);
         }
         #[cfg(not(feature = "lines"))]
         Points::Floats(_) => unreachable!("no lines in the library"),
         Points::Words(words) => call!(
             terrain,
             figure,
+            rule,
             [contour_rings, contour_contours, contour_isobands],
             lines.as_mut_ptr(),
             lines.len(),
@@ -150,6 +163,7 @@ pub fn draw(terrain: &Terrain, figure: Figure) -> Drawn {
 fn draw_lines(
     terrain: &Terrain,
     figure: Figure,
+    rule: Rule,
     [lines, links, directory]: [&mut Vec<u32>; 3],
     points: &mut [f64],
     rings: &mut u32,
@@ -160,6 +174,7 @@ fn draw_lines(
             terrain.values.as_ptr(),
             terrain.values.len(),
             figure.thresholds()[0],
+            rule.0,
             terrain.dx,
             terrain.dy,
             1,
@@ -203,7 +218,13 @@ pub fn text(drawn: &Drawn) -> Vec<u8> {
     let mut length = 0;
     call_on_set!(drawn, contour_geojson_length, &mut length);
     let mut text = vec![0; length as usize];
-    call_on_set!(drawn, contour_geojson, text.as_mut_ptr(), text.len(), &mut length);
+    call_on_set!(
+        drawn,
+        contour_geojson,
+        text.as_mut_ptr(),
+        text.len(),
+        &mut length
+    );
     text
 }
 
@@ -222,6 +243,13 @@ pub fn check(drawn: &Drawn) {
 #[cfg(feature = "why")]
 pub fn fate(drawn: &Drawn, ring: u32) -> [u32; 2] {
     let (mut class, mut owner, mut vertex) = (0, 0, 0);
-    call_on_set!(drawn, contour_ring_fate, ring, &mut class, &mut owner, &mut vertex);
+    call_on_set!(
+        drawn,
+        contour_ring_fate,
+        ring,
+        &mut class,
+        &mut owner,
+        &mut vertex
+    );
     [class, owner]
 }

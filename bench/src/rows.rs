@@ -2,7 +2,9 @@
 //! of the work tables that each needs.
 
 use crate::declared::*;
-use crate::terrains::{Rows, Terrain};
+use crate::ours;
+use crate::rules::AT_LEAST;
+use crate::terrains::{Figure, Rows, Terrain};
 use crate::{shown, timed};
 use std::time::Duration;
 
@@ -46,17 +48,10 @@ pub fn bench((name, make, threshold): Rows, runs: usize) -> String {
 
 /// What `contour_rings` needs, with points and directory for a ring of every four segments.
 fn whole_need(terrain: &Terrain, threshold: f64) -> Need {
-    let Terrain { dx, dy, ref values } = *terrain;
-    let (mut segments, mut peak) = (0, 0);
-    let number = unsafe {
-        let (at, count) = (values.as_ptr(), values.len());
-        contour_first_report(at, count, threshold, dx, dy, &mut segments, &mut peak)
-    };
-    assert!(number == 0, "refusal {number}");
-    let [segments, peak] = [segments, peak].map(|count| count as usize);
+    let [segments, peak] = ours::report(terrain, Figure::Rings(threshold), AT_LEAST);
     let most_rings = segments / 4;
     [
-        dx + 2 + 4 * peak,
+        terrain.dx + 2 + 4 * peak,
         2 * segments,
         2 * (segments + most_rings),
         4 * most_rings,
@@ -106,6 +101,7 @@ impl Tables {
                 values.as_ptr(),
                 values.len(),
                 threshold,
+                AT_LEAST.0,
                 dx,
                 dy,
                 self.lines.as_mut_ptr(),
@@ -132,7 +128,8 @@ impl Tables {
     ) {
         let Terrain { dx, dy, ref values } = *terrain;
         let mut state = [0; STATE_WORDS];
-        let number = unsafe { contour_rows_begin(threshold, dx, dy, state.as_mut_ptr()) };
+        let rule = AT_LEAST.0;
+        let number = unsafe { contour_rows_begin(threshold, rule, dx, dy, state.as_mut_ptr()) };
         assert!(number == 0, "refusal {number}");
         let rows = values.chunks_exact(dx).map(Some);
         for row in rows.chain([None]) {

@@ -75,12 +75,19 @@ pub const LINES: [Line; 15] = [
     ("lines-noise-2048", || noise(2_048, 2_048), Lines(0.5), Crate),
 ];
 
-/// A line that times the writer, or a ring's fate: its name, its terrain, and the threshold of the contour.
+/// A line that times the writer, a ring's fate, or both rules: its name, its terrain, and the threshold.
 pub type Text = (&'static str, fn() -> Terrain, f64);
 
 pub const TEXTS: [Text; 2] = [
     ("geojson-1024", || noise(1_024, 1_024), 0.5),
     ("geojson-three-quarters-1024", || noise(1_024, 1_024), 0.25),
+];
+
+/// The terrains that are timed by both rules.
+pub const BOTH_RULES: [Text; 3] = [
+    ("more-cone-2048", || cone(2_048), 204.8),
+    ("more-waves-2048", || waves(2_048), 0.1),
+    ("more-noise-2048", || noise(2_048, 2_048), 0.5),
 ];
 
 /// A line that times the row form: its name, its terrain, and the threshold.
@@ -112,7 +119,7 @@ impl Terrain {
         }
     }
 
-    /// One plain pass over the values: how many are above.
+    /// One plain pass over the values: how many are at least the threshold.
     pub fn count_above(&self, threshold: f64) -> usize {
         let values = self.values.iter();
         values.filter(|&&value| value >= threshold).count()

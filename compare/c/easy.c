@@ -1,9 +1,12 @@
 /*
  * contour_easy.h against the exact calls in tables of their own, on random terrains with one set of tables for all,
- * as a whole and row by row; what it says where it is refused or has no memory, and of rings and vertices; pointers
- * that are NULL with a count of 0; and the words of contour_strerror.
+ * as a whole and row by row; which samples are above by each rule; what it says where it is refused or has no memory,
+ * and of rings and vertices; pointers that are NULL with a count of 0; and the words of contour_strerror.
  */
 #include "checks.h"
+
+#include <float.h>
+#include <math.h>
 
 /* Memory that ends: so many more calls of malloc and realloc succeed. */
 static long left_to_take = -1;
@@ -94,19 +97,19 @@ static int same_answer(const contour_tables *tables, uint32_t polygon, uint32_t 
     return contour_easy_answer(tables, polygon, k, &easy) == number && memcmp(&easy, &exact, sizeof easy) == 0;
 }
 
-static int same_smoothing(const contour_tables *tables, contour_terrain t, double threshold, uint32_t k,
-                          uint32_t vertex) {
+static int same_smoothing(const contour_tables *tables, contour_terrain t, double threshold, uint32_t rule,
+                          uint32_t k, uint32_t vertex) {
     contour_coordinate easy_x = {7, 7}, easy_y = {7, 7}, x = {7, 7}, y = {7, 7};
     uint32_t number =
-        contour_smoothed_vertex(t.values, t.count, threshold, t.dx, t.dy, WORDS(points), WORDS(directory),
+        contour_smoothed_vertex(t.values, t.count, threshold, rule, t.dx, t.dy, WORDS(points), WORDS(directory),
                                 tables->rings, k, vertex, &x.kind, &x.fraction, &y.kind, &y.fraction);
-    return contour_easy_smoothed_vertex(tables, t, threshold, k, vertex, &easy_x, &easy_y) == number &&
+    return contour_easy_smoothed_vertex(tables, t, threshold, rule, k, vertex, &easy_x, &easy_y) == number &&
            easy_x.kind == x.kind && easy_x.fraction == x.fraction && easy_y.kind == y.kind &&
            easy_y.fraction == y.fraction;
 }
 
 /* The same of each ring, of each for each, of each vertex, and of the first numbers that are not there. */
-static int same_whys(const contour_tables *tables, contour_terrain terrain, double threshold) {
+static int same_whys(const contour_tables *tables, contour_terrain terrain, double threshold, uint32_t rule) {
     int same = 1;
     for (uint32_t k = 0; k <= tables->rings; k++) {
         uint32_t count = k < tables->rings ? directory[4 * k + 1] : 0;
@@ -115,7 +118,7 @@ static int same_whys(const contour_tables *tables, contour_terrain terrain, doub
             same = same_answer(tables, polygon, k);
         }
         for (uint32_t vertex = 0; same && vertex <= count; vertex++) {
-            same = same_smoothing(tables, terrain, threshold, k, vertex);
+            same = same_smoothing(tables, terrain, threshold, rule, k, vertex);
         }
     }
     return same;
@@ -129,24 +132,81 @@ static void try_terrains(void) {
         double pair[2] = {below(6), below(6)}, t = pair[0];
         contour_terrain terrain = {values, count, dx, dy};
         contour_placement at = n % 2 ? nowhere : somewhere;
-        uint32_t r = 0;
+        uint32_t r = 0, rule = below(2);
         fill(values, count);
-        CHECK(contour_rings(values, count, t, dx, dy, WORK, WORDS(points), WORDS(directory), &r) == CONTOUR_OK);
-        CHECK(contour_easy_rings(&tables, terrain, t) == CONTOUR_OK && same_rings(&tables, r));
+        CHECK(contour_rings(values, count, t, rule, dx, dy, WORK, WORDS(points), WORDS(directory), &r) == CONTOUR_OK);
+        CHECK(contour_easy_rings(&tables, terrain, t, rule) == CONTOUR_OK && same_rings(&tables, r));
         CHECK(contour_easy_geojson(&tables) == (r == 0 ? CONTOUR_OK : CONTOUR_BAD_RING_SET));
-        CHECK(contour_contours(values, count, t, dx, dy, WORK, WORDS(points), WORDS(directory), &r) == CONTOUR_OK);
-        CHECK(contour_easy_contours(&tables, terrain, t) == CONTOUR_OK && same_rings(&tables, r));
-        CHECK(same_text(&tables, r) && same_whys(&tables, terrain, t));
-        CHECK(contour_isobands(values, count, pair, 2, 0, dx, dy, WORK, WORDS(points), WORDS(directory), &r) ==
+        CHECK(contour_contours(values, count, t, rule, dx, dy, WORK, WORDS(points), WORDS(directory), &r) ==
               CONTOUR_OK);
-        CHECK(contour_easy_isobands(&tables, terrain, pair, 2, 0) == CONTOUR_OK && same_rings(&tables, r));
+        CHECK(contour_easy_contours(&tables, terrain, t, rule) == CONTOUR_OK && same_rings(&tables, r));
+        CHECK(same_text(&tables, r) && same_whys(&tables, terrain, t, rule));
+        CHECK(contour_isobands(values, count, pair, 2, rule, 0, dx, dy, WORK, WORDS(points), WORDS(directory), &r) ==
+              CONTOUR_OK);
+        CHECK(contour_easy_isobands(&tables, terrain, pair, 2, rule, 0) == CONTOUR_OK && same_rings(&tables, r));
         CHECK(same_text(&tables, r));
-        CHECK(contour_lines(values, count, t, dx, dy, n % 3 != 0, at.x_origin, at.y_origin, at.x_step, at.y_step,
-                            WORK, WORDS(vertices), WORDS(directory), &r) == CONTOUR_OK);
-        CHECK(contour_easy_lines(&tables, terrain, t, n % 3 != 0, at) == CONTOUR_OK && same_lines(&tables, r));
+        CHECK(contour_lines(values, count, t, rule, dx, dy, n % 3 != 0, at.x_origin, at.y_origin, at.x_step,
+                            at.y_step, WORK, WORDS(vertices), WORDS(directory), &r) == CONTOUR_OK);
+        CHECK(contour_easy_lines(&tables, terrain, t, rule, n % 3 != 0, at) == CONTOUR_OK &&
+              same_lines(&tables, r));
     }
     contour_easy_free(&tables);
     CHECK(tables.rings == 0 && tables.points == NULL && tables.points_words == 0);
+}
+
+/* How many rings each call draws of one sample: the same number, or -1. Nothing is above NaN, so a band with it has
+ * the rings of the other threshold alone. */
+static int rings_of_one(double value, double threshold, uint32_t rule) {
+    const contour_terrain terrain = {&value, 1, 1, 1};
+    const double lower[] = {threshold, NAN}, upper[] = {NAN, threshold};
+    contour_tables tables = contour_easy_tables();
+    contour_rows rows = contour_easy_rows();
+    uint32_t drawn, same;
+    same = contour_easy_rings(&tables, terrain, threshold, rule) == CONTOUR_OK;
+    drawn = tables.rings;
+    same &= contour_easy_contours(&tables, terrain, threshold, rule) == CONTOUR_OK && tables.rings == drawn;
+    same &= contour_easy_isobands(&tables, terrain, lower, 2, rule, 0) == CONTOUR_OK && tables.rings == drawn;
+    same &= contour_easy_isobands(&tables, terrain, upper, 2, rule, 0) == CONTOUR_OK && tables.rings == drawn;
+    same &= contour_easy_lines(&tables, terrain, threshold, rule, 1, nowhere) == CONTOUR_OK && tables.rings == drawn;
+    same &= contour_easy_begin(&rows, threshold, rule, 1, 1) == CONTOUR_OK;
+    same &= contour_easy_row(&rows, &value, 1) == CONTOUR_OK && rows.tables.rings == 0;
+    same &= contour_easy_end(&rows) == CONTOUR_OK && rows.tables.rings == drawn;
+    contour_easy_free_rows(&rows);
+    contour_easy_free(&tables);
+    return same ? (int)drawn : -1;
+}
+
+/* A sample against a threshold, and whether it is above: when it has to be at least the threshold, and when it has to
+ * be more, for which any number but 0 stands. */
+static void try_rules(void) {
+    const struct {
+        double value, threshold;
+        int at_least, more_than;
+    } samples[] = {
+        {5, 5, 1, 0},
+        {5, 4, 1, 1},
+        {5, 6, 0, 0},
+        {0.0, -0.0, 1, 0},
+        {-0.0, 0.0, 1, 0},
+        {DBL_MIN, 0, 1, 1},
+        {-DBL_MIN, 0, 0, 0},
+        {INFINITY, INFINITY, 1, 0},
+        {-INFINITY, -INFINITY, 1, 0},
+        {INFINITY, DBL_MAX, 1, 1},
+        {DBL_MAX, INFINITY, 0, 0},
+        {NAN, 0, 0, 0},
+        {NAN, -INFINITY, 0, 0},
+        {0, NAN, 0, 0},
+        {NAN, NAN, 0, 0},
+    };
+    const uint32_t more[] = {CONTOUR_MORE_THAN, 2, 1u << 31, UINT32_MAX};
+    for (size_t n = 0; n < sizeof samples / sizeof *samples; n++) {
+        double value = samples[n].value, threshold = samples[n].threshold;
+        CHECK(rings_of_one(value, threshold, CONTOUR_AT_LEAST) == samples[n].at_least);
+        for (size_t k = 0; k < sizeof more / sizeof *more; k++) {
+            CHECK(rings_of_one(value, threshold, more[k]) == samples[n].more_than);
+        }
+    }
 }
 
 /* Samples that stand alone: of four segments each, so that no table has a word to spare. */
@@ -156,12 +216,14 @@ static void try_full_tables(void) {
         const contour_terrain terrain = {alone, side * side, side, side};
         uint32_t rings = side == 1 ? 1 : 4;
         contour_tables tables = contour_easy_tables();
-        CHECK(contour_easy_rings(&tables, terrain, 1) == CONTOUR_OK && tables.rings == rings);
+        CHECK(contour_easy_rings(&tables, terrain, 1, CONTOUR_AT_LEAST) == CONTOUR_OK && tables.rings == rings);
         CHECK(tables.directory_words == 4 * rings && tables.points_words == 10 * rings);
         contour_easy_free(&tables);
-        CHECK(contour_easy_lines(&tables, terrain, 1, 0, nowhere) == CONTOUR_OK && tables.rings == rings);
+        CHECK(contour_easy_lines(&tables, terrain, 0, CONTOUR_MORE_THAN, 0, nowhere) == CONTOUR_OK &&
+              tables.rings == rings);
         contour_easy_free(&tables);
-        CHECK(contour_easy_isobands(&tables, terrain, pair, 2, 0) == CONTOUR_OK && tables.rings == 2 * rings);
+        CHECK(contour_easy_isobands(&tables, terrain, pair, 2, CONTOUR_AT_LEAST, 0) == CONTOUR_OK &&
+              tables.rings == 2 * rings);
         CHECK(tables.directory_words == 8 * rings && tables.points_words == 20 * rings);
         contour_easy_free(&tables);
     }
@@ -189,12 +251,12 @@ static void try_rows(void) {
     for (int n = 0; n < TERRAINS; n++) {
         size_t dx = 1 + below(SIDE), dy = 1 + below(SIDE), count = dx * dy;
         double t = below(6);
-        uint32_t r = 0, closed = 0;
+        uint32_t r = 0, closed = 0, rule = below(2);
         fill(values, count);
-        CHECK(contour_rings(values, count, t, dx, dy, WORK, WORDS(points), WORDS(directory), &r) == CONTOUR_OK);
-        CHECK(contour_easy_begin(&rows, t, dx, dy) == CONTOUR_OK && rows.tables.rings == 0);
+        CHECK(contour_rings(values, count, t, rule, dx, dy, WORK, WORDS(points), WORDS(directory), &r) == CONTOUR_OK);
+        CHECK(contour_easy_begin(&rows, t, rule, dx, dy) == CONTOUR_OK && rows.tables.rings == 0);
         for (size_t y = 0; y < dy; y++) {
-            CHECK(contour_easy_begin(&rows, t, dx, CONTOUR_SIDE_LIMIT + 1) == CONTOUR_BAD_SIDE);
+            CHECK(contour_easy_begin(&rows, t, 1 - rule, dx, CONTOUR_SIDE_LIMIT + 1) == CONTOUR_BAD_SIDE);
             CHECK(contour_easy_row(&rows, values, dx + 1) == CONTOUR_BAD_ROW && rows.tables.rings == 0);
             CHECK(contour_easy_end(&rows) == CONTOUR_BAD_TURN && rows.tables.rings == 0);
             CHECK(contour_easy_row(&rows, values + y * dx, dx) == CONTOUR_OK && same_closed(&rows, closed));
@@ -216,11 +278,11 @@ static void try_rows_in_scarce_memory(void) {
         contour_rows rows = contour_easy_rows();
         uint32_t number, refused = 0;
         left_to_take = taken;
-        number = contour_easy_begin(&rows, 1, 3, 3);
+        number = contour_easy_begin(&rows, 1, CONTOUR_AT_LEAST, 3, 3);
         if (taken == 0) {
             CHECK(number == CONTOUR_NO_MEMORY && contour_easy_row(&rows, values, 3) == CONTOUR_BAD_ROW);
             left_to_take = -1;
-            number = contour_easy_begin(&rows, 1, 3, 3);
+            number = contour_easy_begin(&rows, 1, CONTOUR_AT_LEAST, 3, 3);
         }
         CHECK(number == CONTOUR_OK);
         for (size_t y = 0; y < 4; y++) {
@@ -242,23 +304,24 @@ static void try_refusals(void) {
     const double values[] = {2, 2, 2, 2, 1, 2, 2, 2, 0}, pair[] = {1, 2};
     const contour_terrain whole = {values, 9, 3, 3}, short_of_one = {values, 8, 3, 3}, flat = {values, 9, 9, 0};
     contour_tables tables = contour_easy_tables();
+    const uint32_t rule = CONTOUR_AT_LEAST;
     contour_fate fate = {7, 7, 7};
     contour_decision decision;
     contour_coordinate x, y;
     CHECK(contour_easy_fate(&tables, 0, &fate) == CONTOUR_NOT_THERE);
-    CHECK(contour_easy_rings(&tables, whole, 1) == CONTOUR_OK && tables.rings == 1);
+    CHECK(contour_easy_rings(&tables, whole, 1, rule) == CONTOUR_OK && tables.rings == 1);
     CHECK(contour_easy_fate(&tables, 0, &fate) == CONTOUR_BAD_RING_SET && fate.owner == 7);
     CHECK(contour_easy_answer(&tables, 0, 0, &decision) == CONTOUR_BAD_RING_SET);
-    CHECK(contour_easy_smoothed_vertex(&tables, whole, 1, 0, 0, &x, &y) == CONTOUR_BAD_RING_SET);
-    CHECK(contour_easy_smoothed_vertex(&tables, short_of_one, 1, 0, 0, &x, &y) == CONTOUR_BAD_VALUE_COUNT);
-    CHECK(contour_easy_contours(&tables, whole, 1) == CONTOUR_OK && tables.rings == 1);
-    CHECK(contour_easy_contours(&tables, short_of_one, 1) == CONTOUR_BAD_VALUE_COUNT && tables.rings == 0);
-    CHECK(contour_easy_rings(&tables, flat, 1) == CONTOUR_BAD_SIDE && tables.rings == 0);
-    CHECK(contour_easy_lines(&tables, flat, 1, 1, nowhere) == CONTOUR_BAD_SIDE);
-    CHECK(contour_easy_isobands(&tables, whole, pair, 1, 0) == CONTOUR_FEW_THRESHOLDS);
-    CHECK(contour_easy_isobands(&tables, whole, pair, 2, 1) == CONTOUR_NO_PAIR && tables.rings == 0);
+    CHECK(contour_easy_smoothed_vertex(&tables, whole, 1, rule, 0, 0, &x, &y) == CONTOUR_BAD_RING_SET);
+    CHECK(contour_easy_smoothed_vertex(&tables, short_of_one, 1, rule, 0, 0, &x, &y) == CONTOUR_BAD_VALUE_COUNT);
+    CHECK(contour_easy_contours(&tables, whole, 1, rule) == CONTOUR_OK && tables.rings == 1);
+    CHECK(contour_easy_contours(&tables, short_of_one, 1, rule) == CONTOUR_BAD_VALUE_COUNT && tables.rings == 0);
+    CHECK(contour_easy_rings(&tables, flat, 1, rule) == CONTOUR_BAD_SIDE && tables.rings == 0);
+    CHECK(contour_easy_lines(&tables, flat, 1, rule, 1, nowhere) == CONTOUR_BAD_SIDE);
+    CHECK(contour_easy_isobands(&tables, whole, pair, 1, rule, 0) == CONTOUR_FEW_THRESHOLDS);
+    CHECK(contour_easy_isobands(&tables, whole, pair, 2, rule, 1) == CONTOUR_NO_PAIR && tables.rings == 0);
     /* What contour.h says of bands: this one has rings, and no polygon. */
-    CHECK(contour_easy_isobands(&tables, whole, pair, 2, 0) == CONTOUR_OK && tables.rings > 0);
+    CHECK(contour_easy_isobands(&tables, whole, pair, 2, rule, 0) == CONTOUR_OK && tables.rings > 0);
     for (uint32_t k = 0; k < tables.rings; k++) {
         CHECK(contour_easy_ring(&tables, k).ring_class == CONTOUR_HOLE);
     }
@@ -274,14 +337,14 @@ static void try_scarce_memory(void) {
         contour_tables tables = contour_easy_tables();
         uint32_t drawn, written = CONTOUR_NO_MEMORY;
         left_to_take = taken;
-        drawn = contour_easy_contours(&tables, terrain, 1);
+        drawn = contour_easy_contours(&tables, terrain, 1, CONTOUR_AT_LEAST);
         if (drawn == CONTOUR_OK) {
             written = contour_easy_geojson(&tables);
         }
         left_to_take = -1;
         CHECK(drawn == (taken < 4 ? CONTOUR_NO_MEMORY : CONTOUR_OK) && tables.rings == (taken < 4 ? 0 : 2));
         CHECK(written == (taken < 5 ? CONTOUR_NO_MEMORY : CONTOUR_OK));
-        CHECK(contour_easy_contours(&tables, terrain, 1) == CONTOUR_OK && tables.rings == 2);
+        CHECK(contour_easy_contours(&tables, terrain, 1, CONTOUR_AT_LEAST) == CONTOUR_OK && tables.rings == 2);
         CHECK(contour_easy_geojson(&tables) == CONTOUR_OK && tables.text_length == strlen(tables.text));
         contour_easy_free(&tables);
     }
@@ -290,6 +353,7 @@ static void try_scarce_memory(void) {
 /* NULL where the count is 0: refused as any short table is, and taken where nothing is needed. */
 static void try_null(void) {
     const double one[] = {1}, pair[] = {2, 3};
+    const uint32_t rule = CONTOUR_AT_LEAST;
     double x, y;
     uint32_t a, b, c, d, open[3] = {0}, state[CONTOUR_ROWS_WORDS];
     uint64_t length;
@@ -297,18 +361,19 @@ static void try_null(void) {
     int32_t answer = 7;
     uint8_t room[64];
     uint16_t ring[] = {2, 1, 1, 0, 0, 1, 1, 2, 2, 1};
-    CHECK(contour_first_report(NULL, 0, 1, 1, 1, &a, &b) == CONTOUR_BAD_VALUE_COUNT);
-    CHECK(contour_first_report(NULL, 0, 1, 0, 1, &a, &b) == CONTOUR_BAD_SIDE);
-    CHECK(contour_band_first_report(one, 1, NULL, 0, 0, 1, 1, &a, &b) == CONTOUR_FEW_THRESHOLDS);
-    CHECK(contour_second_report(one, 1, 1, 1, 1, NULL, 0, NULL, 0, &a, &b, &c, &d) == CONTOUR_OPEN_SHORT);
-    CHECK(contour_second_report(one, 1, 2, 1, 1, open, 3, NULL, 0, &a, &b, &c, &d) == CONTOUR_OK && a == 0);
-    CHECK(contour_band_second_report(one, 1, pair, 2, 0, 1, 1, open, 3, NULL, 0, &a, &b, &c, &d) == CONTOUR_OK);
-    CHECK(contour_rings(one, 1, 1, 1, 1, NULL, 0, NULL, 0, NULL, 0, NULL, 0, &a) == CONTOUR_OPEN_SHORT);
-    CHECK(contour_rings(one, 1, 2, 1, 1, open, 3, NULL, 0, NULL, 0, NULL, 0, &a) == CONTOUR_OK && a == 0);
-    CHECK(contour_contours(one, 1, 2, 1, 1, open, 3, NULL, 0, NULL, 0, NULL, 0, &a) == CONTOUR_OK && a == 0);
-    CHECK(contour_lines(one, 1, 2, 1, 1, 1, 0, 0, 1, 1, open, 3, NULL, 0, NULL, 0, NULL, 0, &a) == CONTOUR_OK);
-    CHECK(contour_isobands(one, 1, pair, 2, 0, 1, 1, open, 3, NULL, 0, NULL, 0, NULL, 0, &a) == CONTOUR_OK);
-    CHECK(contour_rows_begin(2, 1, 1, state) == CONTOUR_OK);
+    CHECK(contour_first_report(NULL, 0, 1, rule, 1, 1, &a, &b) == CONTOUR_BAD_VALUE_COUNT);
+    CHECK(contour_first_report(NULL, 0, 1, rule, 0, 1, &a, &b) == CONTOUR_BAD_SIDE);
+    CHECK(contour_band_first_report(one, 1, NULL, 0, rule, 0, 1, 1, &a, &b) == CONTOUR_FEW_THRESHOLDS);
+    CHECK(contour_second_report(one, 1, 1, rule, 1, 1, NULL, 0, NULL, 0, &a, &b, &c, &d) == CONTOUR_OPEN_SHORT);
+    CHECK(contour_second_report(one, 1, 2, rule, 1, 1, open, 3, NULL, 0, &a, &b, &c, &d) == CONTOUR_OK && a == 0);
+    CHECK(contour_band_second_report(one, 1, pair, 2, rule, 0, 1, 1, open, 3, NULL, 0, &a, &b, &c, &d) ==
+          CONTOUR_OK);
+    CHECK(contour_rings(one, 1, 1, rule, 1, 1, NULL, 0, NULL, 0, NULL, 0, NULL, 0, &a) == CONTOUR_OPEN_SHORT);
+    CHECK(contour_rings(one, 1, 2, rule, 1, 1, open, 3, NULL, 0, NULL, 0, NULL, 0, &a) == CONTOUR_OK && a == 0);
+    CHECK(contour_contours(one, 1, 2, rule, 1, 1, open, 3, NULL, 0, NULL, 0, NULL, 0, &a) == CONTOUR_OK && a == 0);
+    CHECK(contour_lines(one, 1, 2, rule, 1, 1, 1, 0, 0, 1, 1, open, 3, NULL, 0, NULL, 0, NULL, 0, &a) == CONTOUR_OK);
+    CHECK(contour_isobands(one, 1, pair, 2, rule, 0, 1, 1, open, 3, NULL, 0, NULL, 0, NULL, 0, &a) == CONTOUR_OK);
+    CHECK(contour_rows_begin(2, rule, 1, 1, state) == CONTOUR_OK);
     CHECK(contour_rows_row(state, NULL, 0, NULL, 0, NULL, 0, NULL, 0, NULL, 0, &a) == CONTOUR_BAD_ROW);
     CHECK(contour_rows_row(state, one, 1, NULL, 0, NULL, 0, NULL, 0, NULL, 0, &a) == CONTOUR_OPEN_SHORT);
     CHECK(contour_rows_row(state, one, 1, open, 3, NULL, 0, NULL, 0, NULL, 0, &a) == CONTOUR_OK && a == 0);
@@ -321,9 +386,10 @@ static void try_null(void) {
     CHECK(contour_ring_fate(NULL, 0, NULL, 0, 0, 0, &a, &b, &c) == CONTOUR_NOT_THERE);
     CHECK(contour_ring_fate(NULL, 0, NULL, 0, 1, 0, &a, &b, &c) == CONTOUR_BAD_RING_SET);
     CHECK(contour_polygon_answer(NULL, 0, NULL, 0, 0, 0, 0, &answer, &a) == CONTOUR_NOT_THERE);
-    CHECK(contour_smoothed_vertex(NULL, 0, 1, 1, 1, NULL, 0, NULL, 0, 0, 0, 0, &a, &x, &b, &y) ==
+    CHECK(contour_smoothed_vertex(NULL, 0, 1, rule, 1, 1, NULL, 0, NULL, 0, 0, 0, 0, &a, &x, &b, &y) ==
           CONTOUR_BAD_VALUE_COUNT);
-    CHECK(contour_smoothed_vertex(one, 1, 1, 1, 1, NULL, 0, NULL, 0, 0, 0, 0, &a, &x, &b, &y) == CONTOUR_NOT_THERE);
+    CHECK(contour_smoothed_vertex(one, 1, 1, rule, 1, 1, NULL, 0, NULL, 0, 0, 0, 0, &a, &x, &b, &y) ==
+          CONTOUR_NOT_THERE);
     CHECK(contour_geojson_length(NULL, 0, NULL, 0, 0, &length) == CONTOUR_OK && length == 40);
     CHECK(contour_geojson(NULL, 0, NULL, 0, 0, NULL, 0, &length) == CONTOUR_TEXT_SHORT);
     CHECK(contour_geojson(NULL, 0, NULL, 0, 0, room, sizeof room, &length) == CONTOUR_OK);
@@ -346,6 +412,7 @@ static void try_words(void) {
 
 int main(void) {
     try_terrains();
+    try_rules();
     try_full_tables();
     try_rows();
     try_rows_in_scarce_memory();

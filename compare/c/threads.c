@@ -34,18 +34,20 @@ static uint64_t sum_of(uint64_t so_far, contour_tables *tables, uint32_t number)
     return so_far;
 }
 
-/* All figures, in tables of this call alone. */
+/* All figures, by both rules, in tables of this call alone. */
 static uint64_t draw(void) {
     contour_tables tables = contour_easy_tables();
     const contour_placement at = {1, 2, 3, 4};
     uint64_t so_far = 0;
-    for (size_t k = 0; k < 3; k++) {
-        so_far = sum_of(so_far, &tables, contour_easy_rings(&tables, terrain, levels[k]));
-        so_far = sum_of(so_far, &tables, contour_easy_contours(&tables, terrain, levels[k]));
-        so_far = sum_of(so_far, &tables, contour_easy_isobands(&tables, terrain, levels, 4, k));
+    for (size_t n = 0; n < 6; n++) {
+        size_t k = n / 2;
+        uint32_t rule = n % 2 ? CONTOUR_MORE_THAN : CONTOUR_AT_LEAST;
+        so_far = sum_of(so_far, &tables, contour_easy_rings(&tables, terrain, levels[k], rule));
+        so_far = sum_of(so_far, &tables, contour_easy_contours(&tables, terrain, levels[k], rule));
+        so_far = sum_of(so_far, &tables, contour_easy_isobands(&tables, terrain, levels, 4, rule, k));
         so_far += contour_easy_geojson(&tables);
         so_far = sum(so_far, tables.text, tables.text_length);
-        so_far += contour_easy_lines(&tables, terrain, levels[k], 1, at);
+        so_far += contour_easy_lines(&tables, terrain, levels[k], rule, 1, at);
         so_far = sum(so_far, tables.vertices, 16 * (size_t)contour_easy_line(&tables, 0).count);
     }
     contour_easy_free(&tables);

@@ -4,6 +4,7 @@
 use crate::counts::{peak_by_lookup, Counts};
 use crate::random::Random;
 use crate::rings::{two_valued, Grid};
+use crate::rules::{AT_LEAST, MORE_THAN};
 use std::fmt::Write;
 
 const SEED: u64 = 0x7265_706C_6179;
@@ -72,17 +73,21 @@ fn random() -> impl Iterator<Item = Grid> {
             dy,
             values: values.collect(),
             threshold: 1.0,
+            rule: AT_LEAST,
         }
     })
 }
 
-/// One grid: its sides, a number a row, S, H and R, and each ring's point count and points.
+/// One grid: its sides, a number a row, S, H and R, and each ring's point count and points. The samples that are at
+/// least 1 are those above 0, so the crate has to draw the same for both, or the run stops.
 fn line(grid: &Grid) -> String {
     let Counts { segments, peak } = Counts::of(grid);
     assert!(peak == peak_by_lookup(grid), "two counts of H");
     let mut numbers = vec![grid.dx, grid.dy];
     numbers.extend(grid.values.chunks(grid.dx).map(row));
     let rings = grid.rings();
+    let above_zero = grid.ones_by(MORE_THAN);
+    assert!(rings == above_zero.rings(), "two drawings of the rings");
     numbers.extend([segments, peak, rings.len()]);
     for ring in &rings {
         numbers.push(ring.points.len());

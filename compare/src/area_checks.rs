@@ -63,12 +63,7 @@ pub fn thin_grids(tally: &mut Tally, random: &mut Random) {
         }
     }
     for (dx, dy) in [(1, LONGEST_SIDE), (LONGEST_SIDE, 1)] {
-        let grid = Grid {
-            dx,
-            dy,
-            values: vec![1.0; LONGEST_SIDE].into(),
-            threshold: 1.0,
-        };
+        let grid = Grid::new(dx, dy, 1.0, |_, _| 1.0);
         compare_grid(tally, random, &grid, &share);
     }
 }

@@ -5,6 +5,7 @@ use crate::drawing::{answer, Drawing};
 use crate::entries::{call, Entry, Step};
 use crate::lent::{Lent, Room, Table};
 use crate::random::Random;
+use crate::rules::Rule;
 use crate::tally::Tally;
 
 /// How many values of a terrain a description shows.
@@ -131,5 +132,14 @@ pub fn described(asked: &Asked) -> String {
         ),
         (None, None) => format!("{:?}", grid.threshold),
     };
-    format!("{dx} by {dy} at {at}, {count} values{values}")
+    let by = by_rule(grid.rule);
+    format!("{dx} by {dy} at {at}{by}, {count} values{values}")
+}
+
+/// The number of a rule in words, if it is not that of "at least".
+pub fn by_rule(rule: Rule) -> String {
+    match rule {
+        Rule(0) => String::new(),
+        Rule(number) => format!(" by rule {number}"),
+    }
 }

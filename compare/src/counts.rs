@@ -59,9 +59,9 @@ pub fn peak_by_lookup(grid: &Grid) -> usize {
     (0..cells.len()).map(shared_after).max().unwrap_or(0) / 2
 }
 
-/// Whether a sample is above. Everything outside the grid is not, and neither is a NaN.
+/// Whether a sample is above. Everything outside the grid is not.
 fn above(grid: &Grid, x: usize, y: usize) -> bool {
-    x < grid.dx && y < grid.dy && grid.values[y * grid.dx + x] >= grid.threshold
+    x < grid.dx && y < grid.dy && grid.is_above(grid.values[y * grid.dx + x])
 }
 
 /// The four samples of a cell, upper one first on either side. An edge is crossed when its pair differs.

@@ -63,19 +63,19 @@ pub fn crate_polygons(asked: &Asked) -> Vec<Polygon> {
     let grid = asked.grid;
     let builder = ContourBuilder::new(grid.dx, grid.dy, false);
     match (asked.kind, asked.pair) {
-        (Kind::Contours, _) => {
-            let contours = builder.contours(&grid.values, &[grid.threshold]);
+        (Kind::Contours, _) => grid.by_crate(&[grid.threshold], |values, thresholds| {
+            let contours = builder.contours(values, thresholds);
             let mut contours = contours.expect("the crate draws every contour");
             let (MultiPolygon(polygons), _) = contours.remove(0).into_inner();
             polygons
-        }
-        (Kind::Bands, Some(pair)) => {
-            let bands = builder.isobands(&grid.values, &pair.list);
+        }),
+        (Kind::Bands, Some(pair)) => grid.by_crate(&pair.list, |values, thresholds| {
+            let bands = builder.isobands(values, thresholds);
             let mut bands = bands.expect("the crate draws every band");
             let MultiPolygon(mut polygons) = bands.remove(pair.k).into_inner().0;
             polygons.reverse();
             polygons
-        }
+        }),
         _ => Vec::new(),
     }
 }

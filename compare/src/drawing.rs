@@ -7,8 +7,10 @@ use crate::directory::{crate_polygons, directory};
 use crate::entries::{Entry, Step};
 use crate::lent::{Lent, Room, Table, PEAK, POINTS, RINGS, SEGMENTS};
 use crate::lines::{crate_lines, Pen};
+use crate::moves::{hold_to_crate, smoothed_lines};
 use crate::points::Points;
 use crate::rings::{Grid, Ring};
+use crate::rules::AT_LEAST;
 use geo_types::Polygon;
 use std::ops::Range;
 
@@ -45,7 +47,10 @@ impl Drawing {
             directory: directory(asked, &rings, &polygons),
             polygons,
             points: match asked.pen {
-                Some(pen) => lines(asked.grid, pen, &rings),
+                Some(pen) => {
+                    let lines = lines(asked.grid, pen, &rings);
+                    Points::expected(lines.into_iter().flatten())
+                }
                 None => Points::Words(rings.into_iter().flat_map(|ring| ring.words).collect()),
             },
             dx: asked.grid.dx,
@@ -107,13 +112,21 @@ impl Drawing {
     }
 }
 
-/// The crate's lines, as long as its rings of the same terrain.
-fn lines(grid: &Grid, pen: Pen, rings: &[Ring]) -> Points {
+/// The crate's lines, as long as its rings of the same terrain. By "more than" it would smooth by the next larger
+/// threshold: then the lines are its rings smoothed by document 01's formula, which by that threshold has to give the
+/// crate's own lines.
+pub fn lines(grid: &Grid, pen: Pen, rings: &[Ring]) -> Vec<Vec<f64>> {
+    if grid.rule != AT_LEAST && pen.smooth != 0 {
+        if let Some(same) = grid.as_at_least() {
+            hold_to_crate(&same, pen, rings);
+        }
+        return smoothed_lines(grid, pen, rings);
+    }
     let lines = crate_lines(grid, pen);
     let lengths = lines.iter().map(|line| line.len() / 2);
     let as_long = lengths.eq(rings.iter().map(|ring| ring.points.len()));
     assert!(as_long, "the crate's lines are not as long as its rings");
-    Points::expected(lines.into_iter().flatten())
+    lines
 }
 
 /// The lowest refusal that applies to a call, or 0.

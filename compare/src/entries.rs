@@ -57,17 +57,17 @@ impl Entry {
 /// The last two are called only where the library has them.
 macro_rules! call {
     ($asked:expr, [$rings:ident, $contours:ident, $band:ident], $($rest:expr),*) => {{
-        let Grid { threshold, dx, dy, .. } = *$asked.grid;
+        let Grid { threshold, rule, dx, dy, .. } = *$asked.grid;
         let (values, count) = ($asked.values.at().cast(), $asked.values.count());
         match $asked.kind {
-            Kind::Rings => unsafe { $rings(values, count, threshold, dx, dy, $($rest),*) },
+            Kind::Rings => unsafe { $rings(values, count, threshold, rule.0, dx, dy, $($rest),*) },
             #[cfg(feature = "regions")]
-            Kind::Contours => unsafe { $contours(values, count, threshold, dx, dy, $($rest),*) },
+            Kind::Contours => unsafe { $contours(values, count, threshold, rule.0, dx, dy, $($rest),*) },
             #[cfg(feature = "regions")]
             Kind::Bands => {
                 let (list, k) = (&$asked.list, $asked.pair.map_or(0, |pair| pair.k));
                 let (list, places) = (list.at().cast(), list.count());
-                unsafe { $band(values, count, list, places, k, dx, dy, $($rest),*) }
+                unsafe { $band(values, count, list, places, rule.0, k, dx, dy, $($rest),*) }
             }
             _ => unreachable!("no such entry in the library"),
         }
@@ -125,7 +125,11 @@ pub fn call(entry: Entry, asked: &Asked, lent: &mut Lent) -> u32 {
 #[cfg(feature = "lines")]
 fn draw_lines(asked: &Asked, lent: &mut Lent) -> u32 {
     let Grid {
-        threshold, dx, dy, ..
+        threshold,
+        rule,
+        dx,
+        dy,
+        ..
     } = *asked.grid;
     let [lines_words, links_words, points_words, directory_words] = lent.room.0;
     let pen = asked.pen.expect("lines have a pen");
@@ -135,6 +139,7 @@ fn draw_lines(asked: &Asked, lent: &mut Lent) -> u32 {
             asked.values.at().cast(),
             asked.values.count(),
             threshold,
+            rule.0,
             dx,
             dy,
             pen.smooth,

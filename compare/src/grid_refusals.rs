@@ -9,6 +9,7 @@ use crate::lent::Room;
 use crate::lines::random_pen;
 use crate::random::Random;
 use crate::rings::{Grid, Pair};
+use crate::rules::{Rule, AT_LEAST};
 use crate::tally::Tally;
 
 /// The sides that draw refusal 1, with sides that pass among them. The products of the last few pass the
@@ -37,7 +38,7 @@ const TRIES: usize = 20_000;
 /// Every pair of sides with the counts about their product.
 pub fn listed(tally: &mut Tally, random: &mut Random, kind: Kind) {
     for shape in listed_shapes() {
-        compare_count(tally, random, kind, shape);
+        compare_count(tally, random, kind, AT_LEAST, shape);
     }
 }
 
@@ -74,10 +75,10 @@ pub fn listed_pairs(tally: &mut Tally, random: &mut Random) {
 }
 
 /// Small sides, counts and rooms, each of which is often wrong.
-pub fn mixed(tally: &mut Tally, random: &mut Random, kind: Kind) {
+pub fn mixed(tally: &mut Tally, random: &mut Random, kind: Kind, rule: Rule) {
     for _ in 0..TRIES {
         let shape = mixed_shape(random);
-        compare_count(tally, random, kind, shape);
+        compare_count(tally, random, kind, rule, shape);
     }
 }
 
@@ -100,7 +101,13 @@ pub fn mixed_shape(random: &mut Random) -> [usize; 3] {
 
 /// A terrain of so many columns, rows and values, if these are not too many; for a band a list of none to
 /// four thresholds and a place that it often has; for lines a random pen.
-fn compare_count(tally: &mut Tally, random: &mut Random, kind: Kind, shape: [usize; 3]) {
+fn compare_count(
+    tally: &mut Tally,
+    random: &mut Random,
+    kind: Kind,
+    rule: Rule,
+    shape: [usize; 3],
+) {
     let most = match kind {
         Kind::Rings | Kind::Lines => MOST_VALUES,
         Kind::Contours | Kind::Bands => MOST_REGION_VALUES,
@@ -108,7 +115,7 @@ fn compare_count(tally: &mut Tally, random: &mut Random, kind: Kind, shape: [usi
     if shape[2] > most {
         return;
     }
-    let grid = speckled(random, shape);
+    let grid = speckled(random, shape).ones_by(rule);
     match kind {
         Kind::Rings | Kind::Contours => compare_grid(tally, random, &Asked::new(kind, &grid)),
         Kind::Lines => {
@@ -136,6 +143,7 @@ pub fn speckled(random: &mut Random, [dx, dy, count]: [usize; 3]) -> Grid {
             .map(|_| f64::from(u8::from(random.once_in(few))))
             .collect(),
         threshold: 1.0,
+        rule: AT_LEAST,
     }
 }
 

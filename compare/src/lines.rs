@@ -3,6 +3,7 @@
 
 use crate::random::Random;
 use crate::rings::{at_random_threshold, random_grid, Grid};
+use crate::rules::AT_LEAST;
 use contour::ContourBuilder;
 use std::f64::{INFINITY, MAX, MIN_POSITIVE, NAN, NEG_INFINITY};
 
@@ -38,20 +39,42 @@ pub const PLACEMENTS: [Placement; 34] = [
     [0.0, 0.0, 1.0, NAN], [-NAN, NAN, 2.0, -NAN],
 ];
 
-/// The crate's lines, in its order: each its coordinates x, y, x, y, and so on.
+impl Pen {
+    /// Where a point is placed: by its step and origin, if the origin differs from (0, 0) or the step from (1, 1).
+    pub fn placed(self, [x, y]: [f64; 2]) -> [f64; 2] {
+        let [x_origin, y_origin, x_step, y_step] = self.placement;
+        match [x_origin, y_origin] != [0.0, 0.0] || [x_step, y_step] != [1.0, 1.0] {
+            true => [x * x_step + x_origin, y * y_step + y_origin],
+            false => [x, y],
+        }
+    }
+}
+
+/// The crate's lines, in its order: each its coordinates x, y, x, y, and so on. It smooths by the threshold that it is
+/// asked for, so that smoothed ones are those of "at least" alone.
 pub fn crate_lines(grid: &Grid, pen: Pen) -> Vec<Vec<f64>> {
+    assert!(
+        grid.rule == AT_LEAST || pen.smooth == 0,
+        "smoothed by the crate"
+    );
     let [x_origin, y_origin, x_step, y_step] = pen.placement;
     let builder = ContourBuilder::new(grid.dx, grid.dy, pen.smooth != 0)
         .x_origin(x_origin)
         .y_origin(y_origin)
         .x_step(x_step)
         .y_step(y_step);
-    let drawn = builder.lines(&grid.values, &[grid.threshold]);
-    let mut drawn = drawn.expect("the crate draws every grid with all its values");
-    let (lines, _) = drawn.remove(0).into_inner();
-    let lines = lines.iter();
+    let patterns = grid.by_crate(&[grid.threshold], |values, thresholds| {
+        let drawn = builder.lines(values, thresholds);
+        let mut drawn = drawn.expect("the crate draws every grid with all its values");
+        let (lines, _) = drawn.remove(0).into_inner();
+        let lines = lines.iter().map(|line| line.0.iter());
+        lines
+            .map(|line| line.flat_map(|p| [p.x.to_bits(), p.y.to_bits()]).collect())
+            .collect::<Vec<Vec<u64>>>()
+    });
+    let lines = patterns.into_iter();
     lines
-        .map(|line| line.0.iter().flat_map(|p| [p.x, p.y]).collect())
+        .map(|line| line.into_iter().map(f64::from_bits).collect())
         .collect()
 }
 
@@ -115,12 +138,12 @@ pub fn dressed(random: &mut Random, grid: &Grid) -> Grid {
     };
     let mut on_side = |above: bool| loop {
         let value = value();
-        if (value >= threshold) == above {
+        if grid.rule.is_above(value, threshold) == above {
             return value;
         }
     };
     let values = grid.values.iter();
-    let values = values.map(|&height| on_side(height >= grid.threshold));
+    let values = values.map(|&height| on_side(grid.is_above(height)));
     Grid {
         values: values.collect(),
         threshold,

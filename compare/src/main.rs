@@ -1,6 +1,6 @@
 //! Asks the crate and our static library the same questions and counts the answers that differ. What is
-//! expected comes from the crate or from `exact`, `counts`, `row_drawing`, `ring_sets`, `geojson`, `word_text`, `moves`
-//! and `program_inputs`, which are document 01 written down once more. Here stands what the command line asks for;
+//! expected comes from the crate or from `exact`, `rules`, `counts`, `row_drawing`, `ring_sets`, `geojson`, `word_text`,
+//! `moves` and `program_inputs`, which are document 01 written down once more. Here stands what the command line asks for;
 //! `parts` has the parts.
 
 mod answers;
@@ -28,7 +28,7 @@ mod lines;
 mod lists;
 #[cfg(feature = "why")]
 mod made_sets;
-#[cfg(feature = "why")]
+#[cfg_attr(not(feature = "why"), allow(dead_code))]
 mod moves;
 mod nested;
 mod oracle;
@@ -54,6 +54,8 @@ mod row_drawing;
 mod row_entries;
 #[cfg(feature = "rows")]
 mod row_faults;
+mod rule_parts;
+mod rules;
 mod set_faults;
 mod shapes;
 mod tally;

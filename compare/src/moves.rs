@@ -1,9 +1,12 @@
-//! What smoothing does to a vertex: document 01's formula in f64, and beside it a list of all places that are midway
-//! between two neighbouring samples of which at least one is in the grid.
+//! What smoothing does to a vertex: document 01's formula in f64, and lines that are smoothed by it. Beside it a list of
+//! all places that are midway between two neighbouring samples of which at least one is in the grid. The formula takes
+//! the threshold alone, whatever the rule.
 
 use crate::asked::Asked;
-use crate::lines::{crate_lines, Pen, PLACEMENTS};
+use crate::lines::{crate_lines, Pen};
+use crate::points::Points;
 use crate::rings::{Grid, Ring};
+use crate::Pt;
 
 /// What becomes of a coordinate.
 #[derive(Clone, Copy)]
@@ -23,14 +26,59 @@ impl Move {
         }
     }
 
-    /// Whether it takes the one coordinate to the other, bit for bit; any NaN is as good as another.
-    fn takes(self, from: f64, to: f64) -> bool {
+    /// Where it takes a coordinate.
+    fn taken(self, from: f64) -> f64 {
         match self {
-            Move::Stayed => from.to_bits() == to.to_bits(),
-            Move::Moved(fraction) => (from + fraction - 0.5).to_bits() == to.to_bits(),
-            Move::NotANumber => to.is_nan(),
+            Move::Stayed => from,
+            Move::Moved(fraction) => from + fraction - 0.5,
+            Move::NotANumber => f64::NAN,
         }
     }
+}
+
+/// The moves of x and y at a vertex. With xt and yt the whole parts and v1 the sample (xt, yt): x moves if it is whole
+/// and 0 < x < dx, by v1 and the sample (xt - 1, yt); y likewise, by v1 and the sample (xt, yt - 1).
+fn moves(grid: &Grid, [x, y]: [f64; 2]) -> [Move; 2] {
+    let Grid {
+        dx, dy, threshold, ..
+    } = *grid;
+    let [xt, yt] = [x, y].map(|coordinate| coordinate.trunc() as usize);
+    let sample = |column: usize, row: usize| grid.values[row * dx + column];
+    let is_moved = |coordinate: f64, side: usize| {
+        coordinate == coordinate.trunc() && 0.0 < coordinate && coordinate < side as f64
+    };
+    let mut moves = [Move::Stayed; 2];
+    if is_moved(x, dx) {
+        moves[0] = Move::by(threshold, sample(xt - 1, yt), sample(xt, yt));
+    }
+    if is_moved(y, dy) {
+        moves[1] = Move::by(threshold, sample(xt, yt - 1), sample(xt, yt));
+    }
+    moves
+}
+
+/// The lines that these rings become, smoothed by the grid's threshold and placed.
+pub fn smoothed_lines(grid: &Grid, pen: Pen, rings: &[Ring]) -> Vec<Vec<f64>> {
+    let smoothed = |point: &Pt| {
+        let [x, y] = moves(grid, [point.x, point.y]);
+        pen.placed([x.taken(point.x), y.taken(point.y)])
+    };
+    let points = rings.iter().map(|ring| ring.points.iter());
+    points
+        .map(|line| line.flat_map(smoothed).collect())
+        .collect()
+}
+
+/// By "at least" these lines have to be the crate's, or the run stops. Any NaN is as good as another.
+pub fn hold_to_crate(grid: &Grid, pen: Pen, rings: &[Ring]) {
+    let lines = [smoothed_lines(grid, pen, rings), crate_lines(grid, pen)];
+    let [stated, drawn] = lines.map(|lines| {
+        let lines = lines.into_iter();
+        lines
+            .map(|line| Points::expected(line.into_iter()))
+            .collect::<Vec<_>>()
+    });
+    assert!(stated == drawn, "the crate's lines are not document 01's");
 }
 
 /// A terrain whose vertices are smoothed.
@@ -52,47 +100,14 @@ impl<'a> Smoothing<'a> {
     /// The moves of x and y at a point of doubled coordinates, if it is midway.
     pub fn at(&self, point: [u16; 2]) -> Option<[Move; 2]> {
         let [x, y] = point.map(|word| f64::from(word) / 2.0);
-        self.midway.has(point).then(|| self.moves(x, y))
+        self.midway.has(point).then(|| moves(self.grid, [x, y]))
     }
 
-    /// With xt and yt the whole parts and v1 the sample (xt, yt): x moves if it is whole and 0 < x < dx, by v1 and
-    /// the sample (xt - 1, yt); y likewise, by v1 and the sample (xt, yt - 1).
-    fn moves(&self, x: f64, y: f64) -> [Move; 2] {
-        let Grid {
-            dx, dy, threshold, ..
-        } = *self.grid;
-        let [xt, yt] = [x, y].map(|coordinate| coordinate.trunc() as usize);
-        let sample = |column: usize, row: usize| self.grid.values[row * dx + column];
-        let is_moved = |coordinate: f64, side: usize| {
-            coordinate == coordinate.trunc() && 0.0 < coordinate && coordinate < side as f64
-        };
-        let mut moves = [Move::Stayed; 2];
-        if is_moved(x, dx) {
-            moves[0] = Move::by(threshold, sample(xt - 1, yt), sample(xt, yt));
-        }
-        if is_moved(y, dy) {
-            moves[1] = Move::by(threshold, sample(xt, yt - 1), sample(xt, yt));
-        }
-        moves
-    }
-
-    /// The crate's own smoothed lines have to be where the moves take its rings, or the run stops.
-    pub fn hold_to_crate(&self, rings: &[Ring]) {
-        let pen = Pen {
-            smooth: 1,
-            placement: PLACEMENTS[0],
-        };
-        let lines = crate_lines(self.grid, pen);
-        assert!(lines.len() == rings.len(), "not a line a ring");
-        for (line, ring) in lines.iter().zip(rings) {
-            assert!(line.len() == ring.words.len(), "a line not as long");
-            for (to, from) in line.chunks_exact(2).zip(ring.words.chunks_exact(2)) {
-                let moves = self.at([from[0], from[1]]);
-                let moves = moves.expect("the crate's vertices are midway");
-                let same = (0..2).all(|k| moves[k].takes(f64::from(from[k]) / 2.0, to[k]));
-                assert!(same, "the crate's lines are not document 01's");
-            }
-        }
+    /// The crate's vertices have to be midway, or the run stops.
+    pub fn hold_midway(&self, rings: &[Ring]) {
+        let mut points = rings.iter().flat_map(|ring| ring.words.chunks_exact(2));
+        let midway = points.all(|p| self.midway.has([p[0], p[1]]));
+        assert!(midway, "the crate's vertices are not midway");
     }
 }
 

@@ -5,13 +5,14 @@ use crate::calls::compare_asked;
 use crate::kinds::Kind;
 use crate::program::Program;
 use crate::random::Random;
+use crate::rules::AT_LEAST;
 use crate::tally::Tally;
 use crate::text_checks::compare_drawn;
 #[cfg(feature = "why")]
 use crate::why_parts;
 use crate::{
     area_checks, bounds, grid_refusals, line_checks, lists, printed, refusals, region_checks,
-    ring_checks, set_faults, text_checks,
+    ring_checks, rule_parts, set_faults, text_checks,
 };
 #[cfg(feature = "rows")]
 use crate::{row_checks, row_faults};
@@ -63,6 +64,7 @@ impl Plan {
         why_parts::compare(tally, &mut self.random(7), self.rounds);
         #[cfg(not(feature = "why"))]
         tally.lacks("the calls that explain are not in the library: not compared");
+        rule_parts::compare(tally, &mut self.random(8), self.rounds);
         if self.program.is_empty() {
             tally.lacks("there is no program contour_geojson: not compared");
         } else {
@@ -116,14 +118,14 @@ impl Plan {
                 grids += ring_checks::thin_grids(t, random, ring_checks::compare_grid)
             });
             tally.part("rings, several refusals at once", |t| {
-                grid_refusals::mixed(t, random, Kind::Rings)
+                grid_refusals::mixed(t, random, Kind::Rings, AT_LEAST)
             });
             tally.part("rings, about words and tiles", |t| {
                 grids += ring_checks::words_and_tiles(t, random, ring_checks::compare_grid)
             });
         }
         tally.part("rings, 4,096 by 4,096", |t| {
-            ring_checks::largest_grid(t, random)
+            ring_checks::largest_grid(t, random, AT_LEAST)
         });
         tally.note(&format!("the rings of {grids} grids in every kind of room"));
     }
@@ -177,7 +179,7 @@ impl Plan {
         for _ in 0..self.rounds {
             grids += line_checks::random_parts(tally, random, "lines", line_checks::compare_grid);
             tally.part("lines, several refusals at once", |t| {
-                grid_refusals::mixed(t, random, Kind::Lines)
+                grid_refusals::mixed(t, random, Kind::Lines, AT_LEAST)
             });
         }
         tally.part("lines, 4,096 by 4,096", |t| {
@@ -287,8 +289,8 @@ fn random_regions(tally: &mut Tally, random: &mut Random) -> u64 {
         grids += region_checks::thin_grids(t, random, compare_asked)
     });
     tally.part("regions, several refusals at once", |t| {
-        grid_refusals::mixed(t, random, Kind::Contours);
-        grid_refusals::mixed(t, random, Kind::Bands)
+        grid_refusals::mixed(t, random, Kind::Contours, AT_LEAST);
+        grid_refusals::mixed(t, random, Kind::Bands, AT_LEAST)
     });
     tally.part("regions, noise", |t| {
         grids += region_checks::noise(t, random, compare_asked)

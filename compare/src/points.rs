@@ -4,7 +4,7 @@
 use crate::kinds::Kind;
 use std::ops::Range;
 
-#[derive(Clone)]
+#[derive(Clone, PartialEq)]
 pub enum Points {
     Words(Vec<u16>),
     Patterns(Vec<u64>),

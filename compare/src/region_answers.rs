@@ -7,6 +7,7 @@ use crate::directory::{crate_polygons, directory};
 use crate::kinds::Kind;
 use crate::random::Random;
 use crate::rings::{Grid, Pair, Ring};
+use crate::rules::{Rule, AT_LEAST, MORE_THAN};
 use std::fmt::Write;
 
 const SEED: u64 = 0x7265_6769_6F6E;
@@ -131,33 +132,36 @@ fn random() -> impl Iterator<Item = Terrain> {
 }
 
 impl Terrain {
-    /// Its sides, heights and thresholds, the contour's counts and records, the band's, and the band's points.
+    /// Its sides, heights and thresholds, and what the crate draws. Heights that are at least a whole number are those
+    /// that are more than the one before, so the crate has to draw the same for both, or the run stops.
     fn line(&self) -> String {
-        let [lower, upper] = self.thresholds.map(f64::from);
-        let lower = Grid::new(self.dx, self.dy, lower, |x, y| {
-            self.heights[y * self.dx + x].into()
-        });
-        let pair = Pair {
-            list: vec![lower.threshold, upper],
-            k: 0,
-        };
-        let upper = lower.at(upper);
-        let (mut rings, upper_rings) = (lower.rings(), upper.rings());
         let mut line = format!("{} {}", self.dx, self.dy);
         append(&mut line, self.heights.iter().chain(&self.thresholds));
-        let counts = Counts::of(&lower);
-        append_set(
-            &mut line,
-            counts,
-            &Asked::new(Kind::Contours, &lower),
-            &rings,
-        );
+        let thresholds = self.thresholds.map(f64::from);
+        let drawn = self.drawn(thresholds, AT_LEAST);
+        let once_more = self.drawn(thresholds.map(|t| t - 1.0), MORE_THAN);
+        assert!(drawn == once_more, "two drawings of contour and band");
+        line + &drawn + "\n"
+    }
+
+    /// The contour's counts and records, the band's, and the band's points.
+    fn drawn(&self, [lower, upper]: [f64; 2], rule: Rule) -> String {
+        let height = |x: usize, y: usize| f64::from(self.heights[y * self.dx + x]);
+        let pair = Pair {
+            list: vec![lower, upper],
+            k: 0,
+        };
+        let lower = Grid::new(self.dx, self.dy, lower, height).by(rule);
+        let upper = lower.at(upper);
+        let (mut rings, upper_rings) = (lower.rings(), upper.rings());
+        let (mut drawn, counts) = (String::new(), Counts::of(&lower));
+        let contour = Asked::new(Kind::Contours, &lower);
+        append_set(&mut drawn, counts, &contour, &rings);
         rings.extend(upper_rings);
         let counts = counts.larger(Counts::of(&upper));
-        append_set(&mut line, counts, &Asked::band(&lower, &pair), &rings);
-        append(&mut line, rings.iter().flat_map(|ring| &ring.words));
-        line.push('\n');
-        line
+        append_set(&mut drawn, counts, &Asked::band(&lower, &pair), &rings);
+        append(&mut drawn, rings.iter().flat_map(|ring| &ring.words));
+        drawn
     }
 }
 

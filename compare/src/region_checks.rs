@@ -131,10 +131,15 @@ fn compare_random(
     dy: usize,
 ) -> u64 {
     let grid = random_grid(random, dx, dy);
-    let pair = random_pair(random, &grid.values);
-    compare(tally, random, &Asked::new(Kind::Contours, &grid));
-    compare(tally, random, &Asked::band(&grid, &pair));
+    compare_with_pair(tally, random, compare, &grid);
     1
+}
+
+/// A terrain's contour, and a band of random thresholds.
+pub fn compare_with_pair(tally: &mut Tally, random: &mut Random, compare: Compare, grid: &Grid) {
+    let pair = random_pair(random, &grid.values);
+    compare(tally, random, &Asked::new(Kind::Contours, grid));
+    compare(tally, random, &Asked::band(grid, &pair));
 }
 
 /// Rings deep in one another: frames, diamonds and spirals. Rings in rows, where the row of a ring's first

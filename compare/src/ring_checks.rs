@@ -7,6 +7,7 @@ use crate::counts::peak_by_lookup;
 use crate::kinds::Kind;
 use crate::random::Random;
 use crate::rings::{flat_grid, random_grid, small_grids, Grid};
+use crate::rules::Rule;
 use crate::shapes::{self, LONGEST_SIDE};
 use crate::tally::Tally;
 
@@ -53,16 +54,12 @@ pub fn thin_grids(tally: &mut Tally, random: &mut Random, compare: Compare) -> u
 /// Columns about whole words of 64 samples, and rows about tiles of 66: a random grid and a flat one of each
 /// shape.
 pub fn words_and_tiles(tally: &mut Tally, random: &mut Random, compare: Compare) -> u64 {
-    let mut grids = 0;
-    for dx in [62, 63, 64, 65, 66, 127, 128, 129, 191, 192, 193, 256] {
-        for dy in [1, 2, 65, 66, 67, 131, 132, 133, 198] {
-            grids += compare_random(tally, random, dx, dy, compare);
-            let flat = flat_grid(random, dx, dy);
-            compare(tally, random, &flat);
-            grids += 1;
-        }
-    }
-    grids
+    shapes::words_and_tiles(random, |random, dx, dy| {
+        let grids = compare_random(tally, random, dx, dy, compare);
+        let flat = flat_grid(random, dx, dy);
+        compare(tally, random, &flat);
+        grids + 1
+    })
 }
 
 /// A random grid of this shape; returns 1.
@@ -79,8 +76,9 @@ fn compare_random(
 }
 
 /// Both sides the longest, in exact room.
-pub fn largest_grid(tally: &mut Tally, random: &mut Random) {
-    compare_exact(tally, random, &Asked::new(Kind::Rings, &largest()));
+pub fn largest_grid(tally: &mut Tally, random: &mut Random, rule: Rule) {
+    let grid = largest().ones_by(rule);
+    compare_exact(tally, random, &Asked::new(Kind::Rings, &grid));
 }
 
 /// Both sides the longest: a frame whose upper and lower side are dotted, so that rings reach every corner and

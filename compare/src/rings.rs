@@ -2,15 +2,20 @@
 
 use crate::oracle::doubled;
 use crate::random::Random;
+use crate::rules::{Rule, AT_LEAST, MORE_THAN};
 use crate::Pt;
 use std::rc::Rc;
 
-/// A terrain of dx columns and dy rows, and the threshold to draw it at.
+/// The most samples of a grid for which the crate is asked in both ways for what "more than" draws.
+const DRAWN_TWICE: usize = 4_096;
+
+/// A terrain of dx columns and dy rows, the threshold to draw it at, and the rule.
 pub struct Grid {
     pub dx: usize,
     pub dy: usize,
     pub values: Rc<[f64]>,
     pub threshold: f64,
+    pub rule: Rule,
 }
 
 /// A list of thresholds, and the number of a band's lower one in it.
@@ -28,13 +33,14 @@ impl Pair {
 }
 
 /// A ring as the crate gives it, and its doubled whole coordinates.
+#[derive(PartialEq)]
 pub struct Ring {
     pub points: Vec<Pt>,
     pub words: Vec<u16>,
 }
 
 impl Grid {
-    /// A terrain by the height of each sample, by column and row.
+    /// A terrain by the height of each sample, by column and row, under "at least".
     pub fn new(
         dx: usize,
         dy: usize,
@@ -46,13 +52,43 @@ impl Grid {
             dy,
             values: (0..dx * dy).map(|k| height(k % dx, k / dx)).collect(),
             threshold,
+            rule: AT_LEAST,
         }
+    }
+
+    /// Whether a sample of this value is above.
+    pub fn is_above(&self, value: f64) -> bool {
+        self.rule.is_above(value, self.threshold)
+    }
+
+    /// What the crate draws of this terrain at some thresholds, by values and thresholds for its one rule. "More than"
+    /// it draws at the next larger floats, and where there are none by numbers in place of the values. Of smaller grids
+    /// both have to be the same, or the run stops.
+    pub fn by_crate<T: PartialEq>(
+        &self,
+        thresholds: &[f64],
+        draw: impl Fn(&[f64], &[f64]) -> T,
+    ) -> T {
+        let by_numbers = || {
+            let (numbers, thresholds) = self.rule.as_numbers(&self.values, thresholds);
+            draw(&numbers, &thresholds)
+        };
+        let drawn = match self.rule.as_at_least(thresholds) {
+            Some(thresholds) => draw(&self.values, &thresholds),
+            None => return by_numbers(),
+        };
+        if self.rule != AT_LEAST && self.values.len() <= DRAWN_TWICE {
+            assert!(drawn == by_numbers(), "two drawings by \"more than\"");
+        }
+        drawn
     }
 
     /// The crate's rings of this terrain, in its order.
     pub fn rings(&self) -> Vec<Ring> {
-        let drawn = contour::contour_rings(&self.values, self.threshold, self.dx, self.dy);
-        let drawn = drawn.expect("the crate draws every grid with all its values");
+        let drawn = self.by_crate(&[self.threshold], |values, thresholds| {
+            let drawn = contour::contour_rings(values, thresholds[0], self.dx, self.dy);
+            drawn.expect("the crate draws every grid with all its values")
+        });
         drawn
             .into_iter()
             .map(|points| Ring {
@@ -71,6 +107,31 @@ impl Grid {
             ..*self
         }
     }
+
+    /// The same terrain, to be drawn by another rule.
+    pub fn by(&self, rule: Rule) -> Grid {
+        let grid = self.at(self.threshold);
+        Grid { rule, ..grid }
+    }
+
+    /// A terrain of zeros and ones, to be drawn by another rule with the ones above.
+    pub fn ones_by(&self, rule: Rule) -> Grid {
+        let threshold = f64::from(u8::from(rule == AT_LEAST));
+        self.at(threshold).by(rule)
+    }
+
+    /// Whether the rules have the same samples above.
+    pub fn is_one_by_both(&self) -> bool {
+        let above = |value, rule: Rule| rule.is_above(value, self.threshold);
+        let mut values = self.values.iter();
+        values.all(|&value| above(value, AT_LEAST) == above(value, MORE_THAN))
+    }
+
+    /// The same terrain at a threshold by which "at least" has the same samples above, if there is one.
+    pub fn as_at_least(&self) -> Option<Grid> {
+        let thresholds = self.rule.as_at_least(&[self.threshold])?;
+        Some(self.at(thresholds[0]).by(AT_LEAST))
+    }
 }
 
 /// Every shape of up to `samples` samples with every choice of two values.
@@ -87,6 +148,7 @@ pub fn two_valued(dx: usize, dy: usize, choice: u32) -> Grid {
         dy,
         values,
         threshold: 1.0,
+        rule: AT_LEAST,
     }
 }
 
@@ -100,6 +162,15 @@ pub fn random_grid(random: &mut Random, dx: usize, dy: usize) -> Grid {
         _ => plateaus(random, dx, dy),
     };
     at_random_threshold(random, dx, dy, values)
+}
+
+/// The same terrain by "more than", in three of four cases at the value of a sample: elsewhere the rules do not differ.
+pub fn more_than(random: &mut Random, grid: &Grid) -> Grid {
+    let threshold = match random.below(4) {
+        0 => grid.threshold,
+        _ => random.pick(&grid.values),
+    };
+    grid.at(threshold).by(MORE_THAN)
 }
 
 /// A terrain of this shape that is flat over long stretches: blocks of equal neighbours, up to 150 samples
@@ -122,6 +193,7 @@ pub fn at_random_threshold(random: &mut Random, dx: usize, dy: usize, values: Ve
         dy,
         values: values.into(),
         threshold,
+        rule: AT_LEAST,
     }
 }
 

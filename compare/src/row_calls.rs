@@ -2,7 +2,7 @@
 //! work tables stand at another place in each call, with other words past those that the last call left.
 
 use crate::asked::Asked;
-use crate::calls::described;
+use crate::calls::{by_rule, described};
 use crate::kinds::Kind;
 use crate::lent::{Lent, Room, Table, RINGS};
 use crate::points::Points;
@@ -49,12 +49,16 @@ pub fn new_state(random: &mut Random) -> State {
 /// `contour_rows_begin` on a state, which a refused call leaves as it was.
 pub fn compare_begin(tally: &mut Tally, grid: &Grid, state: &mut State) -> Option<()> {
     let Grid {
-        dx, dy, threshold, ..
+        dx,
+        dy,
+        threshold,
+        rule,
+        ..
     } = *grid;
     let fits = |side| (1..=LONGEST_SIDE).contains(&side);
     let number = u32::from(!fits(dx) || !fits(dy));
     let mut stood = state.numbers().to_vec();
-    let got = begin(threshold, dx, dy, state);
+    let got = begin(threshold, rule, dx, dy, state);
     if number == 0 {
         stood = state.numbers().to_vec();
     }
@@ -64,7 +68,8 @@ pub fn compare_begin(tally: &mut Tally, grid: &Grid, state: &mut State) -> Optio
     };
     let holds = difference.is_none();
     tally.holds(difference, || {
-        format!("contour_rows_begin, {dx} by {dy} at {threshold:?}")
+        let by = by_rule(rule);
+        format!("contour_rows_begin, {dx} by {dy} at {threshold:?}{by}")
     });
     holds.then_some(())
 }

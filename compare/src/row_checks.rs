@@ -15,11 +15,14 @@ use crate::rings::{random_grid, small_grids, two_valued, Grid};
 use crate::row_calls::{compare_begin, new_state, Feed, WORK};
 use crate::row_drawing::{turns, Turn};
 use crate::row_entries::Next;
+use crate::rules::{Rule, AT_LEAST, MORE_THAN};
 use crate::shapes::LONGEST_SIDE;
 use crate::tally::Tally;
 
 /// Thresholds that are no plain numbers, and one that is.
 const THRESHOLDS: [f64; 5] = [f64::NAN, f64::INFINITY, f64::NEG_INFINITY, -0.0, 1.0];
+/// Both rules.
+const RULES: [Rule; 2] = [AT_LEAST, MORE_THAN];
 /// Grids of more rows have refused calls now and then, smaller ones before each call.
 const MANY_ROWS: usize = 70;
 /// The most words that a generous table has beyond its need.
@@ -33,15 +36,15 @@ pub fn all_small_grids(tally: &mut Tally, random: &mut Random) -> u64 {
         .count() as u64
 }
 
-/// Every pair of sides that draws refusal 1 or does not, at several thresholds.
+/// Every pair of sides that draws refusal 1 or does not, at several thresholds and by each rule.
 pub fn sides(tally: &mut Tally, random: &mut Random) {
     for dx in SIDES {
         for dy in SIDES {
-            for threshold in THRESHOLDS {
+            for (threshold, rule) in THRESHOLDS.iter().flat_map(|t| RULES.map(|rule| (*t, rule))) {
                 let grid = Grid {
                     dx,
                     dy,
-                    ..two_valued(1, 1, 0).at(threshold)
+                    ..two_valued(1, 1, 0).at(threshold).by(rule)
                 };
                 compare_begin(tally, &grid, &mut new_state(random));
             }
@@ -77,6 +80,24 @@ pub fn compare_grid(tally: &mut Tally, random: &mut Random, grid: &Grid) {
         compare_whole(tally, random, &asked, &drawing, &feed);
     }
     loosely(tally, random, grid, &turns);
+}
+
+/// The same terrain by each rule, begun one after the other and then given in turns: each state goes on by the rule that
+/// it was begun by.
+pub fn compare_in_turns(tally: &mut Tally, random: &mut Random, grid: &Grid) -> Option<()> {
+    let grids = RULES.map(|rule| grid.by(rule));
+    let [at_least, more_than] = [turns(&grids[0]), turns(&grids[1])];
+    let mut feeds = [
+        Feed::begin(tally, random, &grids[0], &at_least)?,
+        Feed::begin(tally, random, &grids[1], &more_than)?,
+    ];
+    for _ in 0..=grid.dy {
+        for feed in &mut feeds {
+            let room = feed.enough();
+            feed.take(tally, random, room)?;
+        }
+    }
+    Some(())
 }
 
 /// The driver's own drawing by rows has to be the crate's, or the run stops.

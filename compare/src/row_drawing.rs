@@ -74,7 +74,7 @@ fn number(grid: &Grid, column: usize, row: usize) -> usize {
         let sample = column.checked_sub(left).zip(row.checked_sub(up));
         let inside = sample.filter(|&(x, y)| x < grid.dx && y < grid.dy);
         let value = inside.map(|(x, y)| grid.values[y * grid.dx + x]);
-        weight * usize::from(value.map_or(false, |value| value >= grid.threshold))
+        weight * usize::from(value.map_or(false, |value| grid.is_above(value)))
     };
     share(1, 1, 0) + share(2, 0, 0) + share(4, 0, 1) + share(8, 1, 1)
 }

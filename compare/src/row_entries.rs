@@ -4,6 +4,7 @@
 use crate::declared::*;
 use crate::guarded::Guarded;
 use crate::lent::{Lent, DIRECTORY, LINES, LINKS, RINGS};
+use crate::rules::Rule;
 
 pub use crate::declared::STATE_WORDS;
 
@@ -48,8 +49,8 @@ impl Next {
 }
 
 /// `contour_rows_begin`.
-pub fn begin(threshold: f64, dx: usize, dy: usize, state: &mut State) -> u32 {
-    unsafe { contour_rows_begin(threshold, dx, dy, state.numbers().as_mut_ptr()) }
+pub fn begin(threshold: f64, rule: Rule, dx: usize, dy: usize, state: &mut State) -> u32 {
+    unsafe { contour_rows_begin(threshold, rule.0, dx, dy, state.numbers().as_mut_ptr()) }
 }
 
 /// A call behind the first one, with what is lent; returns its number.

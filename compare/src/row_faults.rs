@@ -7,6 +7,7 @@ use crate::rings::{random_grid, Grid};
 use crate::row_calls::{new_state, Feed, WORK};
 use crate::row_drawing::turns;
 use crate::row_entries::{call, Next, State};
+use crate::rules::{AT_LEAST, MORE_THAN};
 use crate::shapes::LONGEST_SIDE;
 use crate::tally::Tally;
 
@@ -15,6 +16,8 @@ const TRIES: usize = 60_000;
 const CALLS: usize = 4;
 /// Once in so many tries the rows are long.
 const LONG: usize = 200;
+/// The words of a state before those of the last row's samples. The rule's is the last of them.
+const BEFORE_SAMPLES: usize = 11;
 /// The numbers that a row or an end returns.
 const NUMBERS: [u32; 7] = [0, 5, 6, 7, 8, 13, 14];
 
@@ -25,7 +28,8 @@ pub fn any(tally: &mut Tally, random: &mut Random) {
         if random.once_in(LONG) {
             dx = random.pick(&[64, 65, LONGEST_SIDE - 1, LONGEST_SIDE]);
         }
-        let grid = random_grid(random, dx, dy);
+        let rule = random.pick(&[AT_LEAST, MORE_THAN]);
+        let grid = random_grid(random, dx, dy).by(rule);
         compare_changed(tally, random, &grid);
     }
 }
@@ -40,7 +44,7 @@ fn compare_changed(tally: &mut Tally, random: &mut Random, grid: &Grid) -> Optio
     }
     match random.below(5) {
         0 => feed.state = new_state(random),
-        1 => change_words(random, feed.state.numbers(), 10),
+        1 => change_words(random, feed.state.numbers(), BEFORE_SAMPLES),
         2 => change_words(random, feed.state.numbers(), usize::MAX),
         3 => change_tables(random, &mut feed),
         _ => {

@@ -31,6 +31,20 @@ pub fn every(
     shapes.map(|(dx, dy)| compare(random, dx, dy)).sum()
 }
 
+/// Columns about whole words of 64 samples, and rows about tiles of 66.
+pub fn words_and_tiles(
+    random: &mut Random,
+    mut compare: impl FnMut(&mut Random, usize, usize) -> u64,
+) -> u64 {
+    let mut grids = 0;
+    for dx in [62, 63, 64, 65, 66, 127, 128, 129, 191, 192, 193, 256] {
+        for dy in [1, 2, 65, 66, 67, 131, 132, 133, 198] {
+            grids += compare(random, dx, dy);
+        }
+    }
+    grids
+}
+
 /// Sides of one to four by up to the longest side, both ways.
 pub fn thin(random: &mut Random, mut compare: impl FnMut(&mut Random, usize, usize) -> u64) -> u64 {
     let mut grids = 0;

@@ -165,6 +165,7 @@ pub fn call(question: Question, lent: &LentSet, outputs: &mut Outputs) -> u32 {
                     values.place().cast(),
                     values.count(),
                     grid.threshold,
+                    grid.rule.0,
                     grid.dx,
                     grid.dy
                 ],

@@ -6,6 +6,8 @@ use crate::grid_refusals::{listed_shapes, speckled, MOST_VALUES};
 use crate::kinds::Kind;
 use crate::random::Random;
 use crate::ring_sets::RingSet;
+use crate::rings::Grid;
+use crate::rules::{AT_LEAST, MORE_THAN};
 use crate::tally::Tally;
 use crate::why_sets::compare_made;
 use crate::why_vertices::Vertices;
@@ -16,7 +18,8 @@ const RING: [u16; 12] = [2, 1, 1, 0, 0, 1, 1, 2, 2, 2, 2, 1];
 const RINGS: [u32; 4] = [0, 1, 1 << 30, u32::MAX];
 const VERTICES: [u32; 6] = [0, 4, 5, 6, 7, u32::MAX];
 
-/// Every terrain that draws 1 or 2 or does not, with sets that draw 9 or do not, and numbers that draw 15 or do not.
+/// Every terrain that draws 1 or 2 or does not, by each rule, with sets that draw 9 or do not, and numbers that draw 15
+/// or do not.
 pub fn listed(tally: &mut Tally, random: &mut Random) {
     let sets = [RingSet::default(), sound(), faulty(), stated(0), stated(2)];
     for set in &sets {
@@ -24,14 +27,21 @@ pub fn listed(tally: &mut Tally, random: &mut Random) {
     }
     for shape in listed_shapes().filter(|shape| shape[2] <= MOST_VALUES) {
         let grid = speckled(random, shape);
-        let terrain = Asked::new(Kind::Rings, &grid);
-        for set in &sets {
-            let vertices = Vertices::new(set, &terrain);
-            for (ring, vertex) in RINGS.iter().flat_map(|ring| VERTICES.map(|v| (*ring, v))) {
-                vertices.compare(tally, ring, vertex);
-            }
-            vertices.close(tally);
+        for rule in [AT_LEAST, MORE_THAN] {
+            compare_sets(tally, &grid.ones_by(rule), &sets);
         }
+    }
+}
+
+/// Every set with every number, on one terrain.
+fn compare_sets(tally: &mut Tally, grid: &Grid, sets: &[RingSet]) {
+    let terrain = Asked::new(Kind::Rings, grid);
+    for set in sets {
+        let vertices = Vertices::new(set, &terrain);
+        for (ring, vertex) in RINGS.iter().flat_map(|ring| VERTICES.map(|v| (*ring, v))) {
+            vertices.compare(tally, ring, vertex);
+        }
+        vertices.close(tally);
     }
 }
 

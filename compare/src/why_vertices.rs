@@ -8,8 +8,8 @@ use crate::directory::{HOLE, NOBODY, POLYGON};
 use crate::exact::LARGEST;
 use crate::kinds::Kind;
 use crate::lent_sets::LentSet;
-use crate::lines::random_line_grid;
-use crate::moves::Smoothing;
+use crate::lines::{random_line_grid, Pen, PLACEMENTS};
+use crate::moves::{hold_to_crate, Smoothing};
 use crate::random::Random;
 use crate::ring_sets::{RingSet, FAULTY};
 use crate::rings::{Grid, Ring};
@@ -26,6 +26,12 @@ const SOME: usize = 100;
 const OTHERS: usize = 5_000;
 /// Thresholds to smooth the rings of another one by.
 const THRESHOLDS: [f64; 7] = [NAN, INFINITY, NEG_INFINITY, 0.0, -0.0, 1.0, MAX];
+
+/// Smoothed, and not placed.
+const SMOOTHED: Pen = Pen {
+    smooth: 1,
+    placement: PLACEMENTS[0],
+};
 
 /// A ring set and a terrain by which its vertices are smoothed.
 pub struct Vertices<'a> {
@@ -100,16 +106,19 @@ impl<'a> Vertices<'a> {
 }
 
 /// A terrain's own rings, at its own threshold and at another. The crate's smoothed lines stop the run where they are
-/// not where the moves take its rings.
+/// not where the moves take its rings; by "more than" at the threshold that the crate is asked for.
 pub fn compare_grid(tally: &mut Tally, random: &mut Random, grid: &Grid) {
     let rings = grid.rings();
+    if let Some(same) = grid.as_at_least() {
+        hold_to_crate(&same, SMOOTHED, &rings);
+    }
     let set = set_of(random, &rings);
     let other = random.pick(&THRESHOLDS);
     for (grid, is_own) in [(grid.at(grid.threshold), true), (grid.at(other), false)] {
         let terrain = Asked::new(Kind::Rings, &grid);
         let vertices = Vertices::new(&set, &terrain);
         if let (true, Some(smoothing)) = (is_own, &vertices.smoothing) {
-            smoothing.hold_to_crate(&rings);
+            smoothing.hold_midway(&rings);
         }
         vertices.compare_all(tally, random);
     }

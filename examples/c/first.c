@@ -11,7 +11,7 @@ int main(void) {
     const double values[] = {1, 1, 1, 1, 0, 1, 1, 1, 1};
     const contour_terrain terrain = {values, 9, 3, 3};
     contour_tables tables = contour_easy_tables();
-    uint32_t k, number = contour_easy_contours(&tables, terrain, 1.0);
+    uint32_t k, number = contour_easy_contours(&tables, terrain, 1.0, CONTOUR_AT_LEAST);
     if (number == CONTOUR_OK)
         number = contour_easy_geojson(&tables);
     if (number != CONTOUR_OK) {

@@ -30,6 +30,7 @@ static const double hill_values[] = {4, 4, 2, 0, 4, 0, 4, 2, 2, 4, 2, 0};
 static const struct terrain hill = {hill_values, 4, 3};
 
 static const double threshold = 1;
+static const uint32_t rule = CONTOUR_AT_LEAST;
 
 /* Room for so many words; never none, so that a null pointer means that there is no memory. */
 static void *room(size_t words, size_t size) {
@@ -61,15 +62,15 @@ static void print_line(const double *line, size_t points) {
 static void draw(const char *title, struct terrain t, uint32_t smooth, struct placement at) {
     size_t count = t.dx * t.dy;
     uint32_t segments, rings, peak, points;
-    demand(contour_first_report(t.values, count, threshold, t.dx, t.dy, &segments, &peak));
+    demand(contour_first_report(t.values, count, threshold, rule, t.dx, t.dy, &segments, &peak));
     size_t lines_words = CONTOUR_OPEN_WORDS(peak, t.dx), links_words = CONTOUR_LINK_WORDS(segments);
     uint32_t *lines = room(lines_words, sizeof *lines), *links = room(links_words, sizeof *links);
-    demand(contour_second_report(t.values, count, threshold, t.dx, t.dy, lines, lines_words, links, links_words,
+    demand(contour_second_report(t.values, count, threshold, rule, t.dx, t.dy, lines, lines_words, links, links_words,
                                  &segments, &rings, &peak, &points));
     size_t points_words = CONTOUR_POINT_WORDS(points), directory_words = CONTOUR_DIRECTORY_WORDS(rings);
     double *drawn = room(points_words, sizeof *drawn);
     uint32_t *directory = room(directory_words, sizeof *directory);
-    demand(contour_lines(t.values, count, threshold, t.dx, t.dy, smooth, at.x_origin, at.y_origin, at.x_step,
+    demand(contour_lines(t.values, count, threshold, rule, t.dx, t.dy, smooth, at.x_origin, at.y_origin, at.x_step,
                          at.y_step, lines, lines_words, links, links_words, drawn, points_words, directory,
                          directory_words, &rings));
     puts(title);
@@ -91,8 +92,8 @@ int main(void) {
     draw("as drawn", hill, 0, unplaced);
     draw("smoothed", hill, 1, unplaced);
     draw("smoothed and placed", hill, 1, placed);
-    number = contour_lines(hill.values, hill.dx * hill.dy - 1, threshold, hill.dx, hill.dy, 1, 0, 0, 1, 1, none, 0,
-                           none + 1, 0, nothing, 0, none + 2, 0, &rings);
+    number = contour_lines(hill.values, hill.dx * hill.dy - 1, threshold, rule, hill.dx, hill.dy, 1, 0, 0, 1, 1, none,
+                           0, none + 1, 0, nothing, 0, none + 2, 0, &rings);
     printf("one value fewer: refusal %" PRIu32 "\n", number);
     return 0;
 }

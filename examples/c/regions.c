@@ -17,6 +17,7 @@
 /* A plate with a hole and a peak, and a small hill beside it. */
 static const double values[COUNT] = {1, 1, 1, 1, 1, 0, 2, 1, 0, 1, 2, 1, 0, 1, 1, 1, 1, 1, 1, 0, 0};
 static const double levels[LEVELS] = {1, 2, 2};
+static const uint32_t rule = CONTOUR_AT_LEAST;
 
 /* The tables of one call. */
 struct tables {
@@ -101,25 +102,25 @@ static void print_regions(struct tables *t, uint32_t rings) {
 
 static void contour(double level) {
     uint32_t segments, rings, peak, points;
-    demand(contour_first_report(values, COUNT, level, DX, DY, &segments, &peak));
+    demand(contour_first_report(values, COUNT, level, rule, DX, DY, &segments, &peak));
     struct tables t = work_tables(segments, peak);
-    demand(contour_second_report(values, COUNT, level, DX, DY, t.lines, t.lines_words, t.links, t.links_words,
+    demand(contour_second_report(values, COUNT, level, rule, DX, DY, t.lines, t.lines_words, t.links, t.links_words,
                                  &segments, &rings, &peak, &points));
     add_outputs(&t, rings, points);
-    demand(contour_contours(values, COUNT, level, DX, DY, t.lines, t.lines_words, t.links, t.links_words, t.points,
-                            t.points_words, t.directory, t.directory_words, &rings));
+    demand(contour_contours(values, COUNT, level, rule, DX, DY, t.lines, t.lines_words, t.links, t.links_words,
+                            t.points, t.points_words, t.directory, t.directory_words, &rings));
     printf("contour at %g\n", level);
     print_regions(&t, rings);
 }
 
 static void band(size_t k) {
     uint32_t segments, rings, peak, points;
-    demand(contour_band_first_report(values, COUNT, levels, LEVELS, k, DX, DY, &segments, &peak));
+    demand(contour_band_first_report(values, COUNT, levels, LEVELS, rule, k, DX, DY, &segments, &peak));
     struct tables t = work_tables(segments, peak);
-    demand(contour_band_second_report(values, COUNT, levels, LEVELS, k, DX, DY, t.lines, t.lines_words, t.links,
+    demand(contour_band_second_report(values, COUNT, levels, LEVELS, rule, k, DX, DY, t.lines, t.lines_words, t.links,
                                       t.links_words, &segments, &rings, &peak, &points));
     add_outputs(&t, rings, points);
-    demand(contour_isobands(values, COUNT, levels, LEVELS, k, DX, DY, t.lines, t.lines_words, t.links,
+    demand(contour_isobands(values, COUNT, levels, LEVELS, rule, k, DX, DY, t.lines, t.lines_words, t.links,
                             t.links_words, t.points, t.points_words, t.directory, t.directory_words, &rings));
     printf("band from %g to %g\n", levels[k], levels[k + 1]);
     print_regions(&t, rings);
@@ -130,7 +131,7 @@ int main(void) {
     contour(1);
     band(0);
     band(1);
-    number = contour_band_first_report(values, COUNT, levels, LEVELS, LEVELS - 1, DX, DY, &segments, &peak);
+    number = contour_band_first_report(values, COUNT, levels, LEVELS, rule, LEVELS - 1, DX, DY, &segments, &peak);
     printf("band from the last threshold: refusal %" PRIu32 "\n", number);
     return 0;
 }

@@ -16,6 +16,7 @@
 
 static const double values[COUNT] = {1, 1, 1, 1, 0, 1, 1, 1, 1};
 static const double threshold = 1;
+static const uint32_t rule = CONTOUR_AT_LEAST;
 
 /* The tables of one terrain. */
 struct tables {
@@ -46,13 +47,13 @@ static void demand(uint32_t number) {
 static struct tables lend_tables(void) {
     struct tables t;
     uint32_t segments, rings, peak, points;
-    demand(contour_first_report(values, COUNT, threshold, DX, DY, &segments, &peak));
+    demand(contour_first_report(values, COUNT, threshold, rule, DX, DY, &segments, &peak));
     t.lines_words = CONTOUR_OPEN_WORDS(peak, DX);
     t.links_words = CONTOUR_LINK_WORDS(segments);
     t.lines = room(t.lines_words, sizeof *t.lines);
     t.links = room(t.links_words, sizeof *t.links);
-    demand(contour_second_report(values, COUNT, threshold, DX, DY, t.lines, t.lines_words, t.links, t.links_words,
-                                 &segments, &rings, &peak, &points));
+    demand(contour_second_report(values, COUNT, threshold, rule, DX, DY, t.lines, t.lines_words, t.links,
+                                 t.links_words, &segments, &rings, &peak, &points));
     t.points_words = CONTOUR_POINT_WORDS(points);
     t.directory_words = CONTOUR_DIRECTORY_WORDS(rings);
     t.points = room(t.points_words, sizeof *t.points);
@@ -74,8 +75,8 @@ int main(void) {
     struct tables t = lend_tables();
     uint32_t rings, number, segments, peak;
     int32_t answer;
-    demand(contour_rings(values, COUNT, threshold, DX, DY, t.lines, t.lines_words, t.links, t.links_words, t.points,
-                         t.points_words, t.directory, t.directory_words, &rings));
+    demand(contour_rings(values, COUNT, threshold, rule, DX, DY, t.lines, t.lines_words, t.links, t.links_words,
+                         t.points, t.points_words, t.directory, t.directory_words, &rings));
     for (uint32_t k = 0; k < rings; k++) {
         const uint32_t *record = t.directory + CONTOUR_DIRECTORY_WORDS(k);
         print_ring(k, t.points + 2 * record[CONTOUR_RECORD_FIRST], 2 * (size_t)record[CONTOUR_RECORD_COUNT]);
@@ -86,7 +87,7 @@ int main(void) {
                             2 * (size_t)hole[1], &answer));
     printf("ring 1 against ring 0: %" PRId32 "\n", answer);
 
-    number = contour_first_report(values, COUNT - 1, threshold, DX, DY, &segments, &peak);
+    number = contour_first_report(values, COUNT - 1, threshold, rule, DX, DY, &segments, &peak);
     printf("one value fewer: refusal %" PRIu32 "\n", number);
 
     free(t.lines);

@@ -34,7 +34,7 @@ static void print_rings(const contour_rows *rows, const char *by) {
 /* Hands over all rows and then the end. Returns the number of the call that was refused, else CONTOUR_OK. */
 static uint32_t draw(contour_rows *rows, double threshold, size_t dx, size_t dy) {
     static double values[CONTOUR_SIDE_LIMIT];
-    uint32_t number = contour_easy_begin(rows, threshold, dx, dy);
+    uint32_t number = contour_easy_begin(rows, threshold, CONTOUR_AT_LEAST, dx, dy);
     for (size_t y = 0; number == CONTOUR_OK && y < dy; y++) {
         char by[32];
         if (!read_row(values, dx)) {

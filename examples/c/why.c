@@ -1,7 +1,7 @@
 /*
  * Says of each ring of three ring sets what became of it and why: of the 3 by 3 terrain that is above everywhere but
  * in the centre, of frames about one another, and of a hole that was taken from its polygon. Then it says what
- * smoothing does to the vertices of a line.
+ * smoothing does to the vertices of a line, about samples that are at least 1 and about samples that are more than 0.
  *
  *     cc -std=c99 -I include examples/c/why.c target/staticlib/libcontour_c.a -o why
  */
@@ -28,9 +28,9 @@ static void demand(uint32_t number) {
 }
 
 /* A contour in the tables. */
-static struct ring_set contour(contour_tables *tables, contour_terrain terrain, double threshold) {
+static struct ring_set contour(contour_tables *tables, contour_terrain terrain, double threshold, uint32_t rule) {
     struct ring_set set;
-    demand(contour_easy_contours(tables, terrain, threshold));
+    demand(contour_easy_contours(tables, terrain, threshold, rule));
     set.points = tables->points;
     set.points_words = tables->points_words;
     set.directory = tables->directory;
@@ -85,12 +85,15 @@ static void print_coordinate(const char *name, uint32_t kind, double fraction) {
 }
 
 /* What smoothing does to each vertex of ring 0 of a contour. */
-static void print_smoothing(const struct ring_set *s, contour_terrain t, double threshold) {
-    for (uint32_t vertex = 0; vertex < s->directory[CONTOUR_RECORD_COUNT]; vertex++) {
+static void print_smoothing(const char *title, contour_tables *tables, contour_terrain t, double threshold,
+                            uint32_t rule) {
+    struct ring_set s = contour(tables, t, threshold, rule);
+    puts(title);
+    for (uint32_t vertex = 0; vertex < s.directory[CONTOUR_RECORD_COUNT]; vertex++) {
         uint32_t x_kind, y_kind;
         double x = 0, y = 0;
-        demand(contour_smoothed_vertex(t.values, t.count, threshold, t.dx, t.dy, s->points, s->points_words,
-                                       s->directory, s->directory_words, s->rings, 0, vertex, &x_kind, &x, &y_kind,
+        demand(contour_smoothed_vertex(t.values, t.count, threshold, rule, t.dx, t.dy, s.points, s.points_words,
+                                       s.directory, s.directory_words, s.rings, 0, vertex, &x_kind, &x, &y_kind,
                                        &y));
         printf("vertex %" PRIu32, vertex);
         print_coordinate("x", x_kind, x);
@@ -108,14 +111,13 @@ int main(void) {
     const uint32_t record[] = {0, 5, CONTOUR_HOLE, CONTOUR_NO_OWNER};
     const struct ring_set hole = {points, 10, record, CONTOUR_RECORD_WORDS, 1};
     contour_tables tables = contour_easy_tables();
-    struct ring_set set = contour(&tables, frame, 1);
+    struct ring_set set = contour(&tables, frame, 1, CONTOUR_AT_LEAST);
     print_fates("a frame", &set);
-    set = contour(&tables, nested, 1);
+    set = contour(&tables, nested, 1, CONTOUR_AT_LEAST);
     print_fates("frames about one another", &set);
     print_fates("a hole alone", &hole);
-    puts("a row of 0 and 4 at 1, smoothed");
-    set = contour(&tables, row, 1);
-    print_smoothing(&set, row, 1);
+    print_smoothing("a row of 0 and 4, at least 1, smoothed", &tables, row, 1, CONTOUR_AT_LEAST);
+    print_smoothing("a row of 0 and 4, more than 0, smoothed", &tables, row, 0, CONTOUR_MORE_THAN);
     contour_easy_free(&tables);
     return 0;
 }

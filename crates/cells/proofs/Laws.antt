@@ -1,6 +1,6 @@
--- What callers cite of the cells: every cell number is below 16, no cell draws more than two strokes, a point comes back from its index, and a rule from its
--- number. The third is division with remainder, the others are computed. Assumes nothing.
-use mathlib.Core.Path.{_≡_, refl, _∙_}
+-- What callers cite of the cells: every cell number is below 16, no cell draws more than two strokes, and a point comes back from its index.
+-- The first two are computed, the third is division with remainder. Assumes nothing.
+use mathlib.Core.Path.{_≡_, _∙_}
 use mathlib.Core.Bool.{Bool, true, false}
 use mathlib.Core.List.{[]}
 use Prim.Native.Nat.{ℕ, _+_, _*_, _/_, _%_, _≤_, _<_}
@@ -10,9 +10,6 @@ use native.Mathlib.Omega.{arith}
 use lib.Dec.{leb, leb→le, lit≤}
 use lib.ListN.{length, List·getD-eq-default}
 use Rattle.scope.specs.Cells.{when, numberOf, Point, caseTable, drawn, pointIndex, indexedPoint}
-use Rattle.scope.specs.declared.Rule.{Rule}
-use Rattle.scope.specs.declared.Rule.the-variants.{AtLeast, MoreThan}
-use Rattle.cells.specs.Rules.{ruleOf, ruleNumber}
 use Rattle.cells.proofs.Numbers.{within}
 
 a-share-is-at-most-its-weight : (n : ℕ) (b : Bool) → when n b ≤ n
@@ -52,8 +49,3 @@ a-point-comes-back-from-its-index dx p h =
     add-mul-div-left (p .x) (p .y) (omega arith) ∙ rw (div-eq-of-lt h) (omega arith)
     in
     rw (column, row)
-
-pub a-rule-comes-back : (rule : Rule) → ruleOf (ruleNumber rule) ≡ rule
-unfolding ruleOf ruleNumber
-a-rule-comes-back AtLeast = refl
-a-rule-comes-back MoreThan = refl

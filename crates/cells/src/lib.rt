@@ -9,14 +9,15 @@ ghost use Rattle.scope.specs.Cells.{when, numberOf, drawn, opened, closed, poin
 ghost use Rattle.cells.specs.Sides.{numbered, strokeAt};
 ghost use Rattle.cells.specs.Rules.{ruleOf, levelOf, ruleNumber};
 
-// Whether a sample is above: its value is at least the threshold, or more than it, as the rule says. Where either is not a number it is not above.
-pub fn above(level: Level, value: f64) -> bool
-    ensures { λ r. ⌜ r ≡ aboveAt level value ⌝ }
+// Whether a sample is above at the level of a threshold and a rule's number: its value is at least the threshold, or more than it. Where either is not a number
+// it is not above.
+pub fn above(threshold: f64, number: u32, value: f64) -> bool
+    ensures { λ r. ⌜ r ≡ aboveAt (levelOf threshold number) value ⌝ }
 {
-    let rule = level.rule;
-    match rule {
-        Rule::AtLeast => value >= level.threshold,
-        Rule::MoreThan => value > level.threshold,
+    if number == 0 {
+        value >= threshold
+    } else {
+        value > threshold
     }
 }
 

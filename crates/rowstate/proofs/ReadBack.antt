@@ -12,10 +12,9 @@ use lib.Ieee.Bits.{ofBits-toBits}
 use lib.ListN.{length, getD, take, drop, replicate, length-drop, take-append-drop, getD-replicate, List·getD-eq-default}
 use lib.Seq.{sets, sets-eq, drop-cons, getD-drop, getD-append-add, length-take-le, ext-getD}
 use borrow.Author.Tests.{leb-true, leb-false}
-use Rattle.scope.specs.declared.Rule.{Rule}
 use Rattle.scope.specs.declared.Level.{Level}
 use Rattle.cells.specs.Rules.{levelOf, ruleNumber}
-use Rattle.cells.proofs.Laws.{a-rule-comes-back}
+use Rattle.cells.proofs.Rules.{a-level-comes-back}
 use Rattle.rows.specs.declared.Rows.{Rows}
 use Rattle.rowstate.specs.Words.{sampleWords, paired, lowHalf, highHalf, samplesFrom, samplesIn, stateIn, halvesFrom, samplesOut, headWords, stateOut}
 use Rattle.rowstate.proofs.Walks.{samples-in-a-row}
@@ -125,10 +124,9 @@ module _ (s : Rows) (words : List ℕ) (room : length words ≡ 141) where
 
   -- an `f64` holds the threshold
   level-back : T (fits binary64 (s .level .threshold)) → levelOf (ofBits binary64 (paired (lowHalf bits) (highHalf bits))) (ruleNumber (s .level .rule)) ≡ s .level
-  unfolding levelOf
   level-back held =
       ap (λ (x : Float). levelOf x (ruleNumber (s .level .rule))) (ap (ofBits binary64) (halves-make-one bits) ∙ ofBits-toBits binary64 (s .level .threshold) held)
-      ∙ ap (λ (x : Rule). record { threshold = s .level .threshold; rule = x }) (a-rule-comes-back (s .level .rule))
+      ∙ a-level-comes-back (s .level)
 
   -- where there are 65 words of samples, and none past the columns
   module _ (size : length (s .above) ≡ 65) (none : (w : ℕ) → s .dx ≤ 64 * w → getD (s .above) w 0 ≡ 0) where

@@ -1,14 +1,15 @@
 // Rows of samples as the bits of words: sixty-four samples a word, the first of them lowest, and sixty-four cells by the words of their samples.
 use cells::above;
 use cells::cell_number;
+use cells::rule_number;
 use scope::Level;
-use scope::Rule;
 ghost use mathlib.Core.Path.{_≡_};
 ghost use Prim.Native.Nat.{_+_, _≤_, _<_};
 ghost use lib.Count.{ones};
 ghost use lib.ListN.{length};
 ghost use Rattle.scope.specs.Terrain.{aboveAt};
 ghost use Rattle.scope.specs.Cells.{when};
+ghost use Rattle.cells.specs.Rules.{levelOf};
 ghost use Rattle.words.specs.Bits.{packed, samplesFrom, bitAt, movedIn};
 ghost use Rattle.words.specs.Panes.{paneOf, changesIn, numberIn, saddlesIn, openingIn, closingIn};
 
@@ -22,70 +23,56 @@ fn bit_of(weight: u64, sample: bool) -> u64
     if sample { weight } else { 0 }
 }
 
-// Eight samples from value `i` on.
-fn eight_known(values: &[f64], level: Level, i: usize) -> u64
+// Eight samples from value `i` on, at the level of a threshold and a rule's number.
+fn eight_known(values: &[f64], threshold: f64, number: u32, i: usize) -> u64
     requires { ⌜ i + 8 ≤ length (now values) ⌝ }
-    ensures { λ r. ⌜ r ≡ packed (samplesFrom (aboveAt level) (now (values .entry)) i) 8 ⌝ }
+    ensures { λ r. ⌜ r ≡ packed (samplesFrom (aboveAt (levelOf threshold number)) (now (values .entry)) i) 8 ⌝ }
 {
-    bit_of(1, above(level, values[i]))
-        + bit_of(2, above(level, values[i + 1]))
-        + bit_of(4, above(level, values[i + 2]))
-        + bit_of(8, above(level, values[i + 3]))
-        + bit_of(16, above(level, values[i + 4]))
-        + bit_of(32, above(level, values[i + 5]))
-        + bit_of(64, above(level, values[i + 6]))
-        + bit_of(128, above(level, values[i + 7]))
+    bit_of(1, above(threshold, number, values[i]))
+        + bit_of(2, above(threshold, number, values[i + 1]))
+        + bit_of(4, above(threshold, number, values[i + 2]))
+        + bit_of(8, above(threshold, number, values[i + 3]))
+        + bit_of(16, above(threshold, number, values[i + 4]))
+        + bit_of(32, above(threshold, number, values[i + 5]))
+        + bit_of(64, above(threshold, number, values[i + 6]))
+        + bit_of(128, above(threshold, number, values[i + 7]))
 }
 
-// Eight samples from value `i` on. The rule is decided once for all of them: in each arm the compiler knows it, and tests several samples at once.
-fn eight(values: &[f64], level: Level, i: usize) -> u64
+// The same. The rule is decided once for all of them: in each arm the compiler knows it, and tests several samples at once.
+fn eight(values: &[f64], threshold: f64, number: u32, i: usize) -> u64
     requires { ⌜ i + 8 ≤ length (now values) ⌝ }
-    ensures { λ r. ⌜ r ≡ packed (samplesFrom (aboveAt level) (now (values .entry)) i) 8 ⌝ }
+    ensures { λ r. ⌜ r ≡ packed (samplesFrom (aboveAt (levelOf threshold number)) (now (values .entry)) i) 8 ⌝ }
 {
-    let threshold = level.threshold;
-    let rule = level.rule;
-    match rule {
-        Rule::AtLeast => eight_known(
-            values,
-            Level {
-                threshold,
-                rule: Rule::AtLeast,
-            },
-            i,
-        ),
-        Rule::MoreThan => eight_known(
-            values,
-            Level {
-                threshold,
-                rule: Rule::MoreThan,
-            },
-            i,
-        ),
+    if number == 0 {
+        eight_known(values, threshold, 0, i)
+    } else {
+        eight_known(values, threshold, 1, i)
     }
 }
 
 // Sixteen samples from value `i` on.
-fn sixteen(values: &[f64], level: Level, i: usize) -> u64
+fn sixteen(values: &[f64], threshold: f64, number: u32, i: usize) -> u64
     requires { ⌜ i + 16 ≤ length (now values) ⌝ }
-    ensures { λ r. ⌜ r ≡ packed (samplesFrom (aboveAt level) (now (values .entry)) i) 16 ⌝ }
+    ensures { λ r. ⌜ r ≡ packed (samplesFrom (aboveAt (levelOf threshold number)) (now (values .entry)) i) 16 ⌝ }
 {
-    eight(values, level, i) + eight(values, level, i + 8) * 256
+    eight(values, threshold, number, i) + eight(values, threshold, number, i + 8) * 256
 }
 
 // Thirty-two samples from value `i` on.
-fn thirty_two(values: &[f64], level: Level, i: usize) -> u64
+fn thirty_two(values: &[f64], threshold: f64, number: u32, i: usize) -> u64
     requires { ⌜ i + 32 ≤ length (now values) ⌝ }
-    ensures { λ r. ⌜ r ≡ packed (samplesFrom (aboveAt level) (now (values .entry)) i) 32 ⌝ }
+    ensures { λ r. ⌜ r ≡ packed (samplesFrom (aboveAt (levelOf threshold number)) (now (values .entry)) i) 32 ⌝ }
 {
-    sixteen(values, level, i) + sixteen(values, level, i + 16) * 65536
+    sixteen(values, threshold, number, i) + sixteen(values, threshold, number, i + 16) * 65536
 }
 
-// Sixty-four samples from value `i` on, by halves of halves.
-fn sixty_four(values: &[f64], level: Level, i: usize) -> u64
+// Sixty-four samples from value `i` on.
+fn sixty_four(values: &[f64], threshold: f64, number: u32, i: usize) -> u64
     requires { ⌜ i + 64 ≤ length (now values) ⌝ }
-    ensures { λ r. ⌜ r ≡ packed (samplesFrom (aboveAt level) (now (values .entry)) i) 64 ⌝ }
+    ensures { λ r. ⌜ r ≡ packed (samplesFrom (aboveAt (levelOf threshold number)) (now (values .entry)) i) 64 ⌝ }
 {
-    thirty_two(values, level, i) + thirty_two(values, level, i + 32) * 4294967296
+    thirty_two(values, threshold, number, i)
+        + thirty_two(values, threshold, number, i + 32) * 4294967296
 }
 
 // A whole word of samples from value `i` on. The rule is decided once for all of them, as in `eight`.
@@ -95,23 +82,10 @@ pub fn whole_word(values: &[f64], level: Level, i: usize) -> u64
 {
     let threshold = level.threshold;
     let rule = level.rule;
-    match rule {
-        Rule::AtLeast => sixty_four(
-            values,
-            Level {
-                threshold,
-                rule: Rule::AtLeast,
-            },
-            i,
-        ),
-        Rule::MoreThan => sixty_four(
-            values,
-            Level {
-                threshold,
-                rule: Rule::MoreThan,
-            },
-            i,
-        ),
+    if rule_number(rule) == 0 {
+        sixty_four(values, threshold, 0, i)
+    } else {
+        sixty_four(values, threshold, 1, i)
     }
 }
 
@@ -120,15 +94,18 @@ pub fn word_of(values: &[f64], level: Level, i: usize, n: usize) -> u64
     requires { ⌜ (n ≤ 64) × (i + n ≤ length (now values)) ⌝ }
     ensures { λ r. ⌜ r ≡ packed (samplesFrom (aboveAt level) (now (values .entry)) i) n ⌝ }
 {
+    let threshold = level.threshold;
+    let rule = level.rule;
+    let number = rule_number(rule);
     let mut word: u64 = 0;
     let mut left = n;
     while left % 8 != 0 {
         left -= 1;
-        word = word * 2 + bit_of(1, above(level, values[i + left]));
+        word = word * 2 + bit_of(1, above(threshold, number, values[i + left]));
     }
     while 0 < left {
         left -= 8;
-        word = word * 256 + eight(values, level, i + left);
+        word = word * 256 + eight(values, threshold, number, i + left);
     }
     word
 }

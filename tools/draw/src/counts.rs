@@ -18,8 +18,10 @@ pub fn write(
     for slice in slices {
         match slice {
             _ if !options.wanted.collected => (),
-            Slice::Above(level) => writeln!(out, "value {level}")?,
-            Slice::Between(low, high) => writeln!(out, "low {low}\nhigh {high}")?,
+            Slice::Above(level) => writeln!(out, "value {}", level.threshold)?,
+            Slice::Between(low, high) => {
+                writeln!(out, "low {}\nhigh {}", low.threshold, high.threshold)?
+            }
         }
         match options.figure {
             Figure::Lines { smooth } => {

@@ -6,7 +6,7 @@ use crate::levels::Slice;
 use crate::options::{Figure, Options};
 use crate::shapes::{self, Line};
 use crate::terrain::Terrain;
-use nigrulent::{Placement, Point, Record, Refusal, Regions, Vertex};
+use nigrulent::{Placement, Point, Record, Refusal, Regions, Rule, Vertex};
 use std::io::{self, Write};
 
 /// Writes one figure as a bare geometry, or all of them as a collection, a feature a line.
@@ -122,14 +122,19 @@ pub fn write_ring_feature(
     Ok(out.write_all(b"}}\n")?)
 }
 
-/// The beginning of a feature, with the heights that it is drawn at.
+/// The beginning of a feature, with the heights that it is drawn at, and their rule where it is not the usual one.
 fn write_heights(out: &mut dyn Write, slice: Slice) -> io::Result<()> {
     out.write_all(b"{\"type\":\"Feature\",\"properties\":{")?;
     match slice {
-        Slice::Above(level) => write!(out, "\"value\":{}", number(level)),
+        Slice::Above(level) => write!(out, "\"value\":{}", number(level.threshold))?,
         Slice::Between(low, high) => {
-            write!(out, "\"low\":{},\"high\":{}", number(low), number(high))
+            let [low, high] = [low, high].map(|level| number(level.threshold));
+            write!(out, "\"low\":{low},\"high\":{high}")?;
         }
+    }
+    match slice.rule() {
+        Rule::AtLeast => Ok(()),
+        Rule::MoreThan => out.write_all(b",\"rule\":\">\""),
     }
 }
 

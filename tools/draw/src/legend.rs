@@ -4,6 +4,7 @@ use crate::colours;
 use crate::layout::{Layout, GAP, LETTER, LETTER_WIDTH};
 use crate::levels::Slice;
 use crate::options::Figure;
+use nigrulent::{Level, Rule};
 use std::io::{self, Write};
 
 /// The width of a patch of colour, and what a text is away from it.
@@ -34,7 +35,7 @@ impl Legend {
     pub fn new(slices: &[Slice], figure: Figure, no_data: bool) -> Self {
         let lines = matches!(figure, Figure::Lines { .. });
         let (rows, mut rest) = match lines {
-            true => (line_rows(&heights(slices)), Vec::new()),
+            true => (line_rows(&levels(slices)), Vec::new()),
             false => (region_rows(slices), vec![ground_row(slices)]),
         };
         if no_data {
@@ -117,45 +118,47 @@ fn write_text(out: &mut dyn Write, x: f64, middle: f64, text: &str) -> io::Resul
     writeln!(out, "<text x=\"{x:.1}\" y=\"{y:.1}\">{text}</text>")
 }
 
-/// All heights of some slices, each once.
-pub fn heights(slices: &[Slice]) -> Vec<f64> {
-    let mut heights = Vec::new();
+/// All levels of some slices, each once.
+pub fn levels(slices: &[Slice]) -> Vec<Level> {
+    let mut levels = Vec::new();
     for slice in slices {
         match *slice {
-            Slice::Above(level) => heights.push(level),
-            Slice::Between(low, high) => heights.extend([low, high]),
+            Slice::Above(level) => levels.push(level),
+            Slice::Between(low, high) => levels.extend([low, high]),
         }
     }
-    heights.dedup();
-    heights
+    levels.dedup();
+    levels
 }
 
-fn line_rows(heights: &[f64]) -> Vec<Row> {
-    let rows = heights.iter().enumerate().map(|(k, height)| Row {
-        fill: colours::of_line(k, heights.len()),
-        text: height.to_string(),
+fn line_rows(levels: &[Level]) -> Vec<Row> {
+    let rows = levels.iter().enumerate().map(|(k, level)| Row {
+        fill: colours::of_line(k, levels.len()),
+        text: level.threshold.to_string(),
     });
     rows.rev().collect()
 }
 
 /// A slice that is above a level is seen up to the next one.
 fn region_rows(slices: &[Slice]) -> Vec<Row> {
-    let text = |k: usize| match (slices[k], slices.get(k + 1)) {
-        (Slice::Between(low, high), _) => format!("{low} to {high}"),
-        (Slice::Above(level), Some(Slice::Above(next))) => format!("{level} to {next}"),
-        (Slice::Above(level), _) => format!("{level} and above"),
+    let seen = |k: usize| match (slices[k], slices.get(k + 1)) {
+        (Slice::Above(level), Some(Slice::Above(next))) => Slice::Between(level, *next),
+        (slice, _) => slice,
     };
     let rows = (0..slices.len()).map(|k| Row {
         fill: colours::of_region(k, slices.len()),
-        text: text(k),
+        text: seen(k).to_string(),
     });
     rows.rev().collect()
 }
 
-/// What is below the lowest level, or in no band.
+/// What is not above the lowest level, or in no band.
 fn ground_row(slices: &[Slice]) -> Row {
     let text = match slices.first() {
-        Some(Slice::Above(level)) => format!("below {level}"),
+        Some(Slice::Above(level)) => match level.rule {
+            Rule::AtLeast => format!("below {}", level.threshold),
+            Rule::MoreThan => format!("{} and below", level.threshold),
+        },
         Some(Slice::Between(..)) => "elsewhere".to_owned(),
         None => "all heights".to_owned(),
     };

@@ -3,7 +3,7 @@
 
 use crate::levels::{Heights, Wanted};
 use crate::words::Words;
-use nigrulent::Placement;
+use nigrulent::{Placement, Rule};
 use std::ffi::OsString;
 use std::path::PathBuf;
 
@@ -114,10 +114,15 @@ fn wanted(words: &Words, numbers: &[OsString]) -> Result<Wanted, String> {
     words.exclude("--stream", "--interval")?;
     check_why(words, numbers.len())?;
     let (levels, bands) = (words.has("--levels"), words.has("--bands"));
+    let rule = match words.has("--above") {
+        true => Rule::MoreThan,
+        false => Rule::AtLeast,
+    };
     if let Some(step) = words.number("--interval")? {
         return match (numbers, step > 0.0) {
             ([], true) => Ok(Wanted {
                 heights: Heights::Every(step),
+                rule,
                 bands,
                 collected: true,
             }),
@@ -143,6 +148,7 @@ fn wanted(words: &Words, numbers: &[OsString]) -> Result<Wanted, String> {
     }
     Ok(Wanted {
         heights: Heights::Listed(heights),
+        rule,
         bands: bands || is_band,
         collected: levels || bands,
     })

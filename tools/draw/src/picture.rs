@@ -73,11 +73,14 @@ fn title(slices: &[Slice], options: &Options) -> String {
 
 fn heights_in_words(slices: &[Slice], options: &Options) -> String {
     let of_lines = matches!(options.figure, Figure::Lines { .. });
-    match (slices, legend::heights(slices).as_slice()) {
+    let heights: Vec<_> = legend::levels(slices)
+        .iter()
+        .map(|level| level.threshold)
+        .collect();
+    match (slices, heights.as_slice()) {
         (_, [level]) if of_lines => format!("lines at {level}"),
         (_, [low, high]) if of_lines => format!("lines at {low} and {high}"),
-        ([Slice::Above(level)], _) => format!("{level} and above"),
-        ([Slice::Between(low, high)], _) => format!("{low} to {high}"),
+        ([slice], _) => slice.to_string(),
         (_, [first, .., last]) => {
             let kind = match (of_lines, options.wanted.bands) {
                 (true, _) => "lines at levels".to_owned(),
@@ -150,10 +153,10 @@ fn write_lines(
     smooth: bool,
 ) -> Result<bool, Failure> {
     let mut any = false;
-    let heights = legend::heights(slices);
-    for (k, height) in heights.iter().enumerate() {
-        let lines = shapes::lines(terrain, Slice::Above(*height), smooth, Placement::default())?;
-        let (colour, width) = (colours::of_line(k, heights.len()), stroke(layout, LINE));
+    let levels = legend::levels(slices);
+    for (k, level) in levels.iter().enumerate() {
+        let lines = shapes::lines(terrain, Slice::Above(*level), smooth, Placement::default())?;
+        let (colour, width) = (colours::of_line(k, levels.len()), stroke(layout, LINE));
         any |= !lines.is_empty();
         let drawn = format!("fill=\"none\" stroke=\"{colour}\" stroke-width=\"{width}\"");
         write_path(out, layout, &drawn, lines.into_iter())?;

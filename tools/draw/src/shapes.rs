@@ -1,10 +1,10 @@
 //! What the library draws of a slice of the heights: polygons with their holes, or lines. All calls of the
 //! library that draw stand here.
 
-use crate::levels::Slice;
+use crate::levels::{is_above, Slice};
 use crate::options::Figure;
 use crate::terrain::Terrain;
-use nigrulent::{Placement, Point, Refusal, Regions, Rings, Tables, Vertex};
+use nigrulent::{Level, Placement, Point, Refusal, Regions, Rings, Tables, Vertex};
 use std::borrow::Cow;
 
 /// A line's vertices, the first repeated last.
@@ -14,11 +14,12 @@ pub type Line = Vec<Vertex>;
 pub fn polygons(terrain: &Terrain, slice: Slice, figure: Figure) -> Result<Regions, Refusal> {
     match (slice, figure) {
         (Slice::Between(low, high), Figure::Isobands) => {
-            of_values(terrain, &terrain.values)?.isobands(&[low, high], 0)
+            let pair = [low.threshold, high.threshold];
+            of_values(terrain, &terrain.values)?.isobands(&pair, low.rule, 0)
         }
         _ => {
-            let (values, threshold) = sheet(&terrain.values, slice);
-            of_values(terrain, &values)?.contours(threshold)
+            let (values, level) = sheet(&terrain.values, slice);
+            of_values(terrain, &values)?.contours(level)
         }
     }
 }
@@ -29,19 +30,20 @@ pub fn contour<'t>(
     terrain: &Terrain,
     slice: Slice,
 ) -> Result<Rings<'t>, Refusal> {
-    let (values, threshold) = sheet(&terrain.values, slice);
-    tables.contours(&of_values(terrain, &values)?, threshold)
+    let (values, level) = sheet(&terrain.values, slice);
+    tables.contours(&of_values(terrain, &values)?, level)
 }
 
 /// The polygons as GeoJSON in grid units, in the library's own words.
 pub fn polygons_text(terrain: &Terrain, slice: Slice, figure: Figure) -> Result<String, Refusal> {
     match (slice, figure) {
         (Slice::Between(low, high), Figure::Isobands) => {
-            of_values(terrain, &terrain.values)?.isobands_geojson(&[low, high], 0)
+            let pair = [low.threshold, high.threshold];
+            of_values(terrain, &terrain.values)?.isobands_geojson(&pair, low.rule, 0)
         }
         _ => {
-            let (values, threshold) = sheet(&terrain.values, slice);
-            of_values(terrain, &values)?.contours_geojson(threshold)
+            let (values, level) = sheet(&terrain.values, slice);
+            of_values(terrain, &values)?.contours_geojson(level)
         }
     }
 }
@@ -57,14 +59,14 @@ fn of_values<'a>(terrain: &Terrain, values: &'a [f64]) -> Result<nigrulent::Terr
     nigrulent::Terrain::new(values, terrain.dx, terrain.dy)
 }
 
-/// Values and a threshold that they reach exactly in the slice. Between two heights these are 1 inside and 0
+/// Values and a level that they are above exactly in the slice. Between two levels these are 1 inside and 0
 /// outside, so that a band is drawn as a contour is: no two of its rings share an edge.
-pub fn sheet(values: &[f64], slice: Slice) -> (Cow<'_, [f64]>, f64) {
+pub fn sheet(values: &[f64], slice: Slice) -> (Cow<'_, [f64]>, Level) {
     match slice {
         Slice::Above(level) => (Cow::Borrowed(values), level),
         Slice::Between(low, high) => {
-            let inside = indicator(values, |value| low <= value && value < high);
-            (Cow::Owned(inside), 1.0)
+            let inside = |value| is_above(value, low) && !is_above(value, high);
+            (Cow::Owned(indicator(values, inside)), Level::at_least(1.0))
         }
     }
 }

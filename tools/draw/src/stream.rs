@@ -146,8 +146,8 @@ impl Taker for Drawing<'_> {
         self.placement = self.options.place.placement(placement);
         terrain::check_placement(dx, dy, self.placement)?;
         for slice in self.slices {
-            let (_, threshold) = shapes::sheet(&[], *slice);
-            self.rows.push(Rows::begin(threshold, dx, dy)?);
+            let (_, level) = shapes::sheet(&[], *slice);
+            self.rows.push(Rows::begin(level, dx, dy)?);
         }
         Ok(())
     }

@@ -3,7 +3,8 @@
 use std::ffi::{OsStr, OsString};
 
 /// The options without a value, or whose value may be left out.
-const FLAGS: [&str; 14] = [
+const FLAGS: [&str; 15] = [
+    "--above",
     "--bands",
     "--counts",
     "--grid",

@@ -1,6 +1,7 @@
 -- `words::eight_known` meets its contract: each part of the sum is its sample's, at most its weight, and the eight together are the packed samples. Assumes nothing.
 use borrow.Author.Needs.{needs}
 use Rattle.scope.specs.Terrain.{aboveAt}
+use Rattle.cells.specs.Rules.{levelOf}
 use Rattle.words.proofs.Packing.{eight-samples}
 use Rattle.words.proofs.eight_known.Statement.{statement}
 use Rattle.words.proofs.eight_known.Tie as tie
@@ -171,7 +172,7 @@ returns c =
       first .bit-of .ensures .0,
       first .before .above .ensures,
     )
-    (eight-samples (aboveAt (args .level)) (args .values .now) (args .i))
+    (eight-samples (aboveAt (levelOf (args .threshold) (args .number))) (args .values .now) (args .i))
 
 pub eight-known-spec : {M : Type 1} → statement M
 eight-known-spec =

@@ -5,21 +5,26 @@ use Prim.Native.Nat.{_%_}
 use native.Mathlib.Omega.{arith}
 use borrow.Author.Needs.{needs}
 use Rattle.scope.specs.Terrain.{aboveAt}
+use Rattle.cells.specs.Rules.{levelOf}
+use Rattle.words.proofs.Ruled.{by-its-number}
 use Rattle.words.proofs.Packing.{Holds, holds-none, holds-more, holds-one, holds-fits, holds-room, holds-all}
 use Rattle.words.proofs.word_of.Statement.{statement}
 use Rattle.words.proofs.word_of.Tie as tie
 
 abbrev Inv-loop : tie.InvT-loop
-Inv-loop values level i n word₀ left₀ word left = Holds (aboveAt level) values i n left word
+Inv-loop values i n threshold number word₀ left₀ word left = Holds (aboveAt (levelOf threshold number)) values i n left word
 
 abbrev μ-loop : tie.MeasureT-loop
-μ-loop values level i n word₀ left₀ word left = left
+μ-loop values i n threshold number word₀ left₀ word left = left
 
 abbrev Inv-loop2 : tie.InvT-loop2
-Inv-loop2 values level i n word₀ left₀ word left = Holds (aboveAt level) values i n left word × left % 8 ≡ 0
+Inv-loop2 values i n threshold number word₀ left₀ word left = Holds (aboveAt (levelOf threshold number)) values i n left word × left % 8 ≡ 0
 
 abbrev μ-loop2 : tie.MeasureT-loop2
-μ-loop2 values level i n word₀ left₀ word left = left
+μ-loop2 values i n threshold number word₀ left₀ word left = left
+
+rule-number-requires : tie.Need-rule-number-requires Inv-loop μ-loop Inv-loop2 μ-loop2
+rule-number-requires c κs = search needs
 
 loop-holds : tie.Need-loop-holds Inv-loop μ-loop Inv-loop2 μ-loop2
 loop-holds c = holds-none _ _ _ _
@@ -79,7 +84,10 @@ loop2-less : tie.Need-loop2-less Inv-loop μ-loop Inv-loop2 μ-loop2
 loop2-less c = search needs
 
 returns : tie.Need-returns Inv-loop μ-loop Inv-loop2 μ-loop2
-returns c = holds-all _ _ _ _ (c .before .loop2 .inv .0) (omega arith)
+returns c =
+    let numbered = c .before .before .before .before in
+    let args = numbered .before .before .args in
+    by-its-number (args .values .now) (args .i) (args .n) (args .level) (numbered .rule-number .ensures) (holds-all _ _ _ _ (c .before .loop2 .inv .0) (omega arith))
 
 pub word-of-spec : {M : Type 1} → statement M
 word-of-spec =
@@ -89,6 +97,7 @@ word-of-spec =
     μ-loop
     Inv-loop2
     μ-loop2
+    rule-number-requires
     loop-holds
     sub-left
     mul-word
