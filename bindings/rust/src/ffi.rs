@@ -135,7 +135,13 @@ extern "C" {
         directory_words: usize,
         rings: *mut u32,
     ) -> u32;
-    pub fn contour_rows_begin(threshold: f64, rule: u32, dx: usize, dy: usize, state: *mut u32) -> u32;
+    pub fn contour_rows_begin(
+        threshold: f64,
+        rule: u32,
+        dx: usize,
+        dy: usize,
+        state: *mut u32,
+    ) -> u32;
     pub fn contour_rows_row(
         state: *mut u32,
         values: *const f64,
