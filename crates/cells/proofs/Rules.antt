@@ -1,5 +1,5 @@
 -- The rules by their numbers: a number that is not 0 has one before it, and so the second rule; and a rule comes back from its number. Assumes nothing.
-use mathlib.Core.Path.{_≡_, refl, sym, ap}
+use mathlib.Core.Path.{_≡_, refl, ap}
 use Prim.Native.Nat.{ℕ, zero, suc}
 use lib.Ieee.{Float}
 use Rattle.scope.specs.declared.Rule.{Rule}
