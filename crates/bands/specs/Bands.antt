@@ -1,5 +1,5 @@
--- A band's verdicts, reports, and answer and tables at exit: the band of thresholds k and k + 1 of the list, under one rule. Refusals 1 to 6 change nothing; 7 and 8 spare the
--- outputs and, like success, zero the needed words of both work tables. Assumes nothing.
+-- A band's verdicts, reports, and answer and tables at exit: the band of thresholds k and k + 1 of the list, under one rule. Refusals 1 to 6 change nothing; 7
+-- and 8 spare the outputs and, like success, zero the needed words of both work tables. Assumes nothing.
 use mathlib.Core.Path.{_≡_}
 use mathlib.Core.Bool.{cond}
 use mathlib.Core.List.{List}

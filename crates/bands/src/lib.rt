@@ -229,8 +229,8 @@ fn report_over(
     }
 }
 
-// All room for the band of the thresholds k and k + 1 of a list under a rule: the larger segment count and peak, and the sums of rings and points. On success the needed
-// words of both work tables are zero; a refusal changes nothing.
+// All room for the band of the thresholds k and k + 1 of a list under a rule: the larger segment count and peak, and the sums of rings and points. On success
+// the needed words of both work tables are zero; a refusal changes nothing.
 pub fn band_second_report(
     values: &[f64],
     thresholds: &[f64],

@@ -186,9 +186,9 @@ pub fn band_second_report(
     bands::band_second_report(values, thresholds, rule, k, dx, dy, lines, links)
 }
 
-// Every ring of the band of thresholds k and k + 1 of a list under a rule, with classes and owners: points packed by ring number, the lower set's first, and a directory record
-// a ring in the band's sorted order. On success, and where points or directory are short, the needed words of both work tables are zero; any refusal spares the
-// outputs.
+// Every ring of the band of thresholds k and k + 1 of a list under a rule, with classes and owners: points packed by ring number, the lower set's first, and a
+// directory record a ring in the band's sorted order. On success, and where points or directory are short, the needed words of both work tables are zero; any
+// refusal spares the outputs.
 pub fn isobands(
     values: &[f64],
     thresholds: &[f64],

@@ -1,6 +1,5 @@
-// The library for C and Rust. Each entry answers on every input: it returns 0 and sets the outputs,
-// or returns the refusal's number and leaves the outputs as they were. A rule passes as its number. A slice passes as a pointer, then a length; the words of a state, whose number is fixed,
-// as a pointer alone.
+// The library for C and Rust. Each entry answers on every input: it returns 0 and sets the outputs, or returns the refusal's number and leaves the outputs as
+// they were. A rule passes as its number. A slice passes as a pointer, then a length; the words of a state, whose number is fixed, as a pointer alone.
 use area::AreaAnswer;
 use area::Containment;
 use cells::level_of;
@@ -242,8 +241,8 @@ pub extern "C" fn contour_rows_end(
     settle(step, state, rings)
 }
 
-// Every ring of a grid at a threshold under a rule as a line, as contour_rings gives them, with points that are smoothed unless `smooth` is 0, then placed by the origin and the
-// step.
+// Every ring of a grid at a threshold under a rule as a line, as contour_rings gives them, with points that are smoothed unless `smooth` is 0, then placed by
+// the origin and the step.
 #[no_mangle]
 pub extern "C" fn contour_lines(
     values: &[f64],
@@ -348,8 +347,8 @@ pub extern "C" fn contour_band_first_report(
     }
 }
 
-// What a band of the thresholds k and k + 1 of a list under a rule needs, over both work tables: the larger segment count, the rings of both sets, the larger peak of open
-// lines, and the points of both sets.
+// What a band of the thresholds k and k + 1 of a list under a rule needs, over both work tables: the larger segment count, the rings of both sets, the larger
+// peak of open lines, and the points of both sets.
 #[no_mangle]
 pub extern "C" fn contour_band_second_report(
     values: &[f64],
@@ -386,7 +385,8 @@ pub extern "C" fn contour_band_second_report(
     }
 }
 
-// Every ring of the band of thresholds k and k + 1 of a list under a rule, with its class and its owner: points of the lower set first, and records in the band's sorted order.
+// Every ring of the band of thresholds k and k + 1 of a list under a rule, with its class and its owner: points of the lower set first, and records in the
+// band's sorted order.
 #[no_mangle]
 pub extern "C" fn contour_isobands(
     values: &[f64],

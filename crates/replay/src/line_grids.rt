@@ -1,5 +1,5 @@
-// A line of the text of lines: sides, smoothing, the rule's number, threshold and placement, the samples, the set of the lines, and their points. A float is four numbers, the parts
-// of its pattern.
+// A line of the text of lines: sides, smoothing, the rule's number, threshold and placement, the samples, the set of the lines, and their points. A float is
+// four numbers, the parts of its pattern.
 use crate::calls::VALUES;
 use crate::cases::Build;
 use crate::cases::Drawing;

@@ -1,8 +1,8 @@
-// Replays what the crate answered. Standard input, the file stdin, is what `compare/run --answers` writes: the texts of rings, of contours and bands, and of lines,
-// each with how many grids it has and then a line for each grid. Every number is held to what the library answers in exact room, with each table one word short,
-// and in generous room, and so are the builds and the readers by records. Grids of rings, contours and bands are run under both rules, and each line of the third text
-// names its own. The grids of rings are run row by row, too, and of every contour the fate of each ring is worked out anew. Then the longest sides that pass, the
-// nearest that do not, and lists without a pair are run.
+// Replays what the crate answered. Standard input, the file stdin, is what `compare/run --answers` writes: the texts of rings, of contours and bands, and of
+// lines, each with how many grids it has and then a line for each grid. Every number is held to what the library answers in exact room, with each table one
+// word short, and in generous room, and so are the builds and the readers by records. Grids of rings, contours and bands are run under both rules, and each
+// line of the third text names its own. The grids of rings are run row by row, too, and of every contour the fate of each ring is worked out anew. Then the
+// longest sides that pass, the nearest that do not, and lists without a pair are run.
 // A program has no exit status of its own: what differs stands in what it writes, which is held to the file stdout.
 mod calls;
 mod cases;

@@ -1,5 +1,5 @@
--- The state of a terrain that comes row by row as 141 words: eight numbers, the bits of the threshold in two words, the low one first, the number of the rule, and
--- the samples of the last row, two words for sixty-four of them, the low one first. Assumes nothing.
+-- The state of a terrain that comes row by row as 141 words: eight numbers, the bits of the threshold in two words, the low one first, the number of the rule,
+-- and the samples of the last row, two words for sixty-four of them, the low one first. Assumes nothing.
 use Prim.Native.Nat.{ℕ, zero, suc, _+_, _*_, _/_, _%_, min}
 use mathlib.Core.List.{List, [], _∷_}
 use lib.Ieee.{binary64, ofBits, toBits}

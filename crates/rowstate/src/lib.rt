@@ -1,5 +1,5 @@
-// The state of a terrain that comes row by row as a fixed number of words, for a caller who is lent none of our structs: eight numbers, the threshold by its bits,
-// the rule by its number, and the samples of the last row, two words for sixty-four of them.
+// The state of a terrain that comes row by row as a fixed number of words, for a caller who is lent none of our structs: eight numbers, the threshold by its
+// bits, the rule by its number, and the samples of the last row, two words for sixty-four of them.
 use cells::level_of;
 use cells::rule_number;
 use rows::Rows;

@@ -1,5 +1,5 @@
--- Samples at the level of a threshold and a rule's number: where the number is 0 or not, the literal 0 or 1 may stand for it, and the level's own number gives the
--- samples at that level. Assumes nothing.
+-- Samples at the level of a threshold and a rule's number: where the number is 0 or not, the literal 0 or 1 may stand for it, and the level's own number gives
+-- the samples at that level. Assumes nothing.
 use mathlib.Core.Path.{_≡_, sym, ap, _∙_}
 use mathlib.Core.List.{List}
 use Prim.Native.Nat.{ℕ}
