@@ -119,18 +119,32 @@ def is_polygon(number, area):
     return f"ring {number} is a polygon: its area is {area}, which is above 0\n"
 
 
-def is_hole(number, owner, at, others):
-    """What is said of a hole: its first point, and of other polygons."""
-    return f"ring {number} is a hole of polygon {owner}: its vertex 0 at {at} lies inside; {others}\n"
+def is_hole(number, owner, area, at, others):
+    """What is said of a hole: its area, its first point, and of other polygons."""
+    why = f"its area is {area}, which is not above 0, and its vertex 0 at {at} lies inside"
+    return f"ring {number} is a hole of polygon {owner}: {why}; {others}\n"
 
 
 def below_dots(count, named, more=""):
     """What is said of the hole below dots: it begins two rows below that of document 01."""
     do_not_hold = f"polygons {named} do not hold it: vertex 0 lies outside each"
-    return is_hole(count, count + 1, "(1.5, 4)", do_not_hold + more)
+    return is_hole(count, count + 1, -0.5, "(1.5, 4)", do_not_hold + more)
 
 
-TABLE_HEAD = "  ring  class     owner  points\n"
+def frame(side):
+    """A square of ones about a square of zeros, which is two samples shorter."""
+    whole, open_row = " ".join("1" * side), " ".join("1" + "0" * (side - 2) + "1")
+    return "\n".join([whole, *[open_row] * (side - 2), whole])
+
+
+TABLE_HEAD = "  ring  class     owner  points    area\n"
+# Document 01's areas -4 and 68 are eighths.
+PLATE_TABLE = TABLE_HEAD + "     0  hole          1       5    -0.5\n     1  polygon       1      13     8.5\n"
+# A ring about a square of n by n samples has 4n + 1 points and encloses n * n squares, less an eighth at each corner.
+FRAME_TABLE = (
+    "  ring  class     owner  points     area\n"
+    "     0  hole          1     153  -1443.5\n"
+    "     1  polygon       1     161   1599.5\n")
 TWENTY = "0, 1, 2, 3, 4, 5, 6, 7, 8, 9, 10, 11, 12, 13, 14, 15, 16, 17, 18 and 19"
 
 # What is read from standard input, the words behind the file '-', and what is printed.
@@ -245,7 +259,7 @@ DRAWN = [
     ("5", "5 6 --above --stream", ""),
     ("1 2", "0 1 --levels --above --stream", closed('"value":0,"rule":">"', 0, 1.5, BOTH) + closed(
         '"value":1,"rule":">"', 0, 0.5, SECOND)),
-    (PLATE, "0 --above --why", TABLE_HEAD + "     0  hole          1       5\n     1  polygon       1      13\n"),
+    (PLATE, "0 --above --why", PLATE_TABLE),
     (PLATE, "--above 0 --why 1", is_polygon(1, 8.5)),
     ("5", "5 --above --why", TABLE_HEAD),
     # As they close: the plate's hole first, of an area below 0; all rings run as the library gives them.
@@ -268,14 +282,16 @@ DRAWN = [
     ("1 2", "0 2 inf --bands --stream", closed('"low":0,"high":2', 0, 0.5, UPPER_LEFT) + closed(
         '"low":2,"high":null', 0, 0.5, SECOND)),
     # What became of rings, by document 01's areas and owners; in grid units, where there is a header too.
-    (PLATE, "1 --why", TABLE_HEAD + "     0  hole          1       5\n     1  polygon       1      13\n"),
-    (PLATE, "1 --why 0", is_hole(0, 1, "(1.5, 2)", "no polygon has a lower number")),
+    (PLATE, "1 --why", PLATE_TABLE),
+    (PLATE, "1 --why 0", is_hole(0, 1, -0.5, "(1.5, 2)", "no polygon has a lower number")),
     (PLATE, "1 --why 1", is_polygon(1, 8.5)),
+    (frame(40), "1 --why", FRAME_TABLE),
+    (frame(40), "1 --why 0", is_hole(0, 1, -1443.5, "(38.5, 39)", "no polygon has a lower number")),
     (PLATE, "1 --why 01 --grid", is_polygon(1, 8.5)),
     (header("cellsize 10", "cellsize 1e308") + ROWS, "1 --why=0", is_polygon(0, 0.5)),
     ("5", "9 --why", TABLE_HEAD),
     (FRAMES, "1 --why 0", is_polygon(0, 0.5)),
-    (FRAMES, "1 --why 1", is_hole(1, 2, "(3.5, 4)", "polygon 0 does not hold it: vertex 0 lies outside")),
+    (FRAMES, "1 --why 1", is_hole(1, 2, -8.5, "(3.5, 4)", "polygon 0 does not hold it: vertex 0 lies outside")),
     (FRAMES, "1 --why 2", is_polygon(2, 24.5)),
     (dots(2), "1 --why 2", below_dots(2, "0 and 1")),
     (dots(3), "1 --why 3", below_dots(3, "0, 1 and 2")),

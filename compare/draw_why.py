@@ -1,6 +1,7 @@
 """What ./draw --why has to say of the rings of a contour, by document 01's words for area, containment and owners. A
 ring is its points in doubled coordinates. Part of compare/draw_tests."""
 
+from decimal import Decimal
 from fractions import Fraction
 
 # So many polygons are named; tools/draw/help.txt says so.
@@ -14,6 +15,12 @@ def pairs(ring):
 
 def area(ring):
     return sum(y0 * x1 - x0 * y1 for (x0, y0), (x1, y1) in pairs(ring))
+
+
+def squares(ring):
+    """What a ring encloses, signed, in squares of one step from sample to sample, written exactly. The sum is twice
+    what it encloses in doubled coordinates, in which such a square is 4."""
+    return str(Decimal(area(ring)) / 8)
 
 
 def place(ring, x, y):
@@ -51,23 +58,27 @@ def fate(rings, number):
 
 def table(rings):
     """The table of all rings."""
-    cells = [("ring", "class", "owner", "points")]
+    cells = [("ring", "class", "owner", "points", "area")]
     for number, ring in enumerate(rings):
         polygon = area(ring) > 0
         owner = number if polygon else fate(rings, number)[0]
-        cells.append((str(number), "polygon" if polygon else "hole", str(owner), str(len(ring))))
-    return "".join(f"{number:>6}  {kind:7}  {owner:>6}  {count:>6}\n" for number, kind, owner, count in cells)
+        cells.append((str(number), "polygon" if polygon else "hole", str(owner), str(len(ring)), squares(ring)))
+    wide = max(6, *(len(size) for *_, size in cells))
+    return "".join(
+        f"{number:>6}  {kind:7}  {owner:>6}  {count:>6}  {size:>{wide}}\n"
+        for number, kind, owner, count, size in cells)
 
 
 def sentence(rings, number):
     """The sentence on one ring, which vertex 0 decides everywhere, as it does in a contour."""
-    size = area(rings[number])
-    if size > 0:
-        return f"ring {number} is a polygon: its area is {size / 8:g}, which is above 0\n"
+    size = squares(rings[number])
+    if area(rings[number]) > 0:
+        return f"ring {number} is a polygon: its area is {size}, which is above 0\n"
     owner, vertex, before = fate(rings, number)
     assert vertex == 0 and all(decided == 0 for _, decided in before)
     x, y = rings[number][0]
-    text = f"ring {number} is a hole of polygon {owner}: its vertex 0 at ({x / 2:g}, {y / 2:g}) lies inside"
+    text = f"ring {number} is a hole of polygon {owner}: its area is {size}, which is not above 0, and "
+    text += f"its vertex 0 at ({x / 2:g}, {y / 2:g}) lies inside"
     named = [str(polygon) for polygon, _ in before[:NAMED]]
     more = len(before) - len(named)
     if not named:

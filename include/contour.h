@@ -25,7 +25,8 @@
  *     for (uint32_t k = 0; k < r; k++) {
  *         const uint32_t *record = directory + CONTOUR_RECORD_WORDS * (size_t)k;
  *         const uint16_t *ring = points + 2 * (size_t)record[CONTOUR_RECORD_FIRST];
- *         ... record[CONTOUR_RECORD_COUNT] points x, y, record[CONTOUR_RECORD_CLASS] and [CONTOUR_RECORD_OWNER] ...
+ *         ... record[CONTOUR_RECORD_COUNT] points x, y, record[CONTOUR_RECORD_CLASS] and [CONTOUR_RECORD_OWNER],
+ *             contour_record_area(record) ...
  *     }
  *
  * Each call may be refused, which this leaves out. contour_geojson writes such a figure as text, and
@@ -67,7 +68,7 @@
  *     open table     4 * H + dx + 2    uint32_t
  *     link table     2 * S             uint32_t
  *     points         2 * (S + R)       uint16_t, of lines double
- *     directory      4 * R             uint32_t
+ *     directory      6 * R             uint32_t
  *
  * contour_first_report gives S and H, which size both work tables. contour_second_report, lent these,
  * gives R and the number of points S + R too, which size the outputs. R is at most S / 4, for a caller who
@@ -84,15 +85,17 @@
  *     open table     dx + 2, and 4 for each of the most lines that are open after a cell of the call
  *     link table     2 for each of the most segments in no closed ring after a cell of the call
  *     points         2 for each point of the rings that close in the call
- *     directory      4 for each of these rings
+ *     directory      6 for each of these rings
  *
  * CONTOUR_ROWS_OPEN_WORDS(dx) words of the open table are enough at any height. The links of a ring that has closed
  * are used again at once, so the link table goes by what is unfinished and not by S.
  *
- * A directory record has four words: the number of the ring's first point, its number of points, its class
- * and its owner. The class is 0 for a polygon, 1 for a hole and 2 for a bare ring or a line. A polygon owns
- * itself, and a hole has the record number of its polygon for owner. CONTOUR_NO_OWNER, 4,294,967,295, is no
- * owner: a bare ring and a line have none, and a hole that belongs to no polygon is dropped.
+ * A directory record has six words: the number of the ring's first point, its number of points, its class, its
+ * owner, and its signed area in two words. The class is 0 for a polygon, 1 for a hole and 2 for a bare ring or a
+ * line. A polygon owns itself, and a hole has the record number of its polygon for owner. CONTOUR_NO_OWNER,
+ * 4,294,967,295, is no owner: a bare ring and a line have none, and a hole that belongs to no polygon is dropped.
+ * The area is that of contour_area for the ring's points, in two's complement, its low word first; a line has the
+ * area of its ring before it was smoothed and placed. contour_record_area reads it.
  *
  * Refusals. The first that applies is returned, alone. That is the lowest, but 13 and 14 come before 5:
  *
@@ -134,9 +137,9 @@
 
 /* The version of this header and of the library that was installed with it. */
 #define CONTOUR_VERSION_MAJOR 0
-#define CONTOUR_VERSION_MINOR 3
+#define CONTOUR_VERSION_MINOR 4
 #define CONTOUR_VERSION_PATCH 0
-#define CONTOUR_VERSION "0.3.0"
+#define CONTOUR_VERSION "0.4.0"
 
 /* What a call returns. */
 #define CONTOUR_OK 0u
@@ -187,11 +190,13 @@
 #define CONTOUR_STACK_BYTES 16384u
 
 /* The words of a directory record: how many, and which is which. */
-#define CONTOUR_RECORD_WORDS 4u
+#define CONTOUR_RECORD_WORDS 6u
 #define CONTOUR_RECORD_FIRST 0u
 #define CONTOUR_RECORD_COUNT 1u
 #define CONTOUR_RECORD_CLASS 2u
 #define CONTOUR_RECORD_OWNER 3u
+#define CONTOUR_RECORD_AREA_LOW 4u
+#define CONTOUR_RECORD_AREA_HIGH 5u
 
 /* The words of the state of a terrain that comes row by row. */
 #define CONTOUR_ROWS_WORDS 141u
@@ -248,6 +253,17 @@ static inline const char *contour_strerror(uint32_t number) {
     }
 }
 
+/* The signed area that a record holds. */
+static inline int64_t contour_record_area(const uint32_t *record) {
+    return (int64_t)((uint64_t)record[CONTOUR_RECORD_AREA_HIGH] << 32 | record[CONTOUR_RECORD_AREA_LOW]);
+}
+
+/* Puts a signed area, as contour_area gives it, into a record: for a ring set that is made by hand. */
+static inline void contour_record_set_area(uint32_t *record, int64_t area) {
+    record[CONTOUR_RECORD_AREA_LOW] = (uint32_t)(uint64_t)area;
+    record[CONTOUR_RECORD_AREA_HIGH] = (uint32_t)((uint64_t)area >> 32);
+}
+
 /*
  * Counts S and H with no table at all.
  *
@@ -272,7 +288,7 @@ uint32_t contour_second_report(const double *values, size_t count, double thresh
  *
  * Returns 0, sets *rings to R, and leaves zeros in the needed words of both work tables. The points of all
  * rings stand one ring after the other, and the directory has a record a ring, of class 2 and without owner.
- * Ring k begins at word 2 * directory[4 * k] of the points and has 2 * directory[4 * k + 1] words.
+ * The record of ring k begins at word CONTOUR_DIRECTORY_WORDS(k).
  *
  * Or returns 1, 2, 5, 6, 7 or 8; points, directory and *rings then stay as they were.
  */
@@ -431,10 +447,11 @@ uint32_t contour_contains(const uint16_t *outer, size_t outer_words, const uint1
  * the first rings records of the directory; words behind these records do not matter, nor do points of no
  * record.
  *
- * It is faulty when the directory has fewer than 4 * rings words, or when one of these records has points that
- * are not all there, fewer than 4 points or more than 67,108,864, a coordinate above 8,192, a last point that
- * is not the first, a class other than 0 and 1, as a polygon another owner than itself, or as a hole an owner
- * that is neither the number of a polygon nor 4,294,967,295.
+ * It is faulty when the directory has fewer than CONTOUR_DIRECTORY_WORDS(rings) words, or when one of these records
+ * has points that are not all there, fewer than 4 points or more than 67,108,864, a coordinate above 8,192, a last
+ * point that is not the first, a class other than 0 and 1, as a polygon another owner than itself, as a hole an owner
+ * that is neither the number of a polygon nor 4,294,967,295, or an area that is not that of its ring. So whoever has
+ * checked a set may go by the areas in it.
  *
  * Returns 0; or returns 9 if it is faulty.
  */

@@ -10,7 +10,7 @@
  *         fprintf(stderr, "%s\n", contour_strerror(number));
  *     for (uint32_t k = 0; k < tables.rings; k++) {
  *         contour_ring ring = contour_easy_ring(&tables, k);
- *         ...
+ *         ... ring.count points x, y, ring.ring_class, ring.owner, ring.area ...
  *     }
  *     contour_easy_free(&tables);
  *
@@ -82,15 +82,19 @@ typedef struct contour_tables {
     size_t directory_words, points_words, vertices_words, text_bytes, lines_words, links_words;
 } contour_tables;
 
-/* A ring of a figure: its record number, class and owner, and so many points x, y. */
+/* A ring of a figure: its record number, class and owner, so many points x, y, and their signed area, as contour_area
+ * gives it. */
 typedef struct contour_ring {
     uint32_t number, ring_class, owner, count;
+    int64_t area;
     const uint16_t *points;
 } contour_ring;
 
-/* A line of a figure: its record number, and so many vertices x, y. */
+/* A line of a figure: its record number, so many vertices x, y, and the area of its ring before it was smoothed and
+ * placed. */
 typedef struct contour_line {
     uint32_t number, count;
+    int64_t area;
     const double *vertices;
 } contour_line;
 
@@ -142,22 +146,24 @@ static inline void contour_easy_free(contour_tables *tables) {
 
 /* Ring k of a figure, for k below tables->rings. */
 static inline contour_ring contour_easy_ring(const contour_tables *tables, uint32_t k) {
-    const uint32_t *record = tables->directory + CONTOUR_RECORD_WORDS * (size_t)k;
+    const uint32_t *record = tables->directory + CONTOUR_DIRECTORY_WORDS(k);
     contour_ring ring;
     ring.number = k;
     ring.ring_class = record[CONTOUR_RECORD_CLASS];
     ring.owner = record[CONTOUR_RECORD_OWNER];
     ring.count = record[CONTOUR_RECORD_COUNT];
+    ring.area = contour_record_area(record);
     ring.points = tables->points + 2 * (size_t)record[CONTOUR_RECORD_FIRST];
     return ring;
 }
 
 /* Line k of what contour_easy_lines has drawn, for k below tables->rings. */
 static inline contour_line contour_easy_line(const contour_tables *tables, uint32_t k) {
-    const uint32_t *record = tables->directory + CONTOUR_RECORD_WORDS * (size_t)k;
+    const uint32_t *record = tables->directory + CONTOUR_DIRECTORY_WORDS(k);
     contour_line line;
     line.number = k;
     line.count = record[CONTOUR_RECORD_COUNT];
+    line.area = contour_record_area(record);
     line.vertices = tables->vertices + 2 * (size_t)record[CONTOUR_RECORD_FIRST];
     return line;
 }

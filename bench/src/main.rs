@@ -1,6 +1,8 @@
 //! Times our library, and beside it in one run and turn by turn the crate or our own rings, and the time to
 //! read the values once.
 
+#[cfg(feature = "before")]
+mod before;
 mod both_rules;
 /// The functions of our library, declared once for all who call it from Rust.
 #[allow(dead_code)]
@@ -10,12 +12,18 @@ mod declared;
 #[path = "../../compare/src/geojson.rs"]
 mod geojson;
 mod ours;
+/// The words of a record, as compare has them.
+#[allow(dead_code)]
+#[path = "../../compare/src/records.rs"]
+mod records;
 #[cfg(feature = "rows")]
 mod rows;
 /// The rules, as compare has them.
 #[allow(dead_code)]
 #[path = "../../compare/src/rules.rs"]
 mod rules;
+#[cfg(any(feature = "before", feature = "rows"))]
+mod tables;
 mod terrains;
 mod texts;
 mod theirs;
@@ -65,6 +73,10 @@ fn main() {
     closing.extend(terrains::WHY.map(|why| why::bench(why, runs)));
     #[cfg(not(feature = "why"))]
     println!("the fate of a ring is not in the library: not timed");
+    #[cfg(feature = "before")]
+    closing.push(before::bench(terrains::AREA, runs));
+    #[cfg(not(feature = "before"))]
+    println!("CONTOUR_C_BEFORE names no older library: times area-2048 is left out");
     if !cfg!(feature = "regions") {
         println!("contours and bands are not in the library: not timed");
     }

@@ -2,6 +2,7 @@
 //! drawn.
 
 use crate::declared::*;
+use crate::records::{place, records, COUNT};
 use crate::rules::{Rule, AT_LEAST};
 use crate::terrains::{Figure, Terrain};
 use std::ops::Range;
@@ -57,33 +58,29 @@ impl Points {
 }
 
 impl Drawn {
-    /// The records: first point, point count, class and owner.
-    pub fn records(&self) -> impl Iterator<Item = [u32; 4]> + '_ {
-        let records = self.directory.chunks_exact(4).take(self.rings as usize);
-        records.map(|r| [r[0], r[1], r[2], r[3]])
+    pub fn records(&self) -> impl Iterator<Item = &[u32]> + '_ {
+        records(&self.directory).take(self.rings as usize)
     }
 
     /// The words of all points.
     pub fn words(&self) -> impl Iterator<Item = u64> + '_ {
-        let points: u32 = self.records().map(|record| record[1]).sum();
+        let points: u32 = self.records().map(|record| record[COUNT]).sum();
         self.points.part(0..2 * points as usize)
     }
 
     /// A record's points, halved.
-    pub fn halves(&self, [first, count, ..]: [u32; 4]) -> impl Iterator<Item = [f64; 2]> + '_ {
+    pub fn halves(&self, record: &[u32]) -> impl Iterator<Item = [f64; 2]> + '_ {
         let words = match &self.points {
             Points::Words(words) => words,
             Points::Floats(_) => unreachable!("the points of lines are not doubled"),
         };
-        let [first, count] = [first, count].map(|number| 2 * number as usize);
-        let points = words[first..first + count].chunks_exact(2);
+        let points = words[place(record)].chunks_exact(2);
         points.map(|p| [p[0], p[1]].map(|word| f64::from(word) / 2.0))
     }
 
     /// The words of a record's points.
-    pub fn ring(&self, [first, count, ..]: [u32; 4]) -> Vec<u64> {
-        let [first, count] = [first, count].map(|number| 2 * number as usize);
-        self.points.part(first..first + count).collect()
+    pub fn ring(&self, record: &[u32]) -> Vec<u64> {
+        self.points.part(place(record)).collect()
     }
 }
 
@@ -123,7 +120,7 @@ pub fn draw_by(terrain: &Terrain, figure: Figure, rule: Rule) -> Drawn {
     let mut links = vec![0; 2 * segments];
     let mut drawn = Drawn {
         points: Points::zeroed(figure, sets * 2 * (segments + segments / 4)),
-        directory: vec![0; sets * 4 * (segments / 4)],
+        directory: vec![0; sets * RECORD_WORDS * (segments / 4)],
         rings: 0,
     };
     let Drawn {

@@ -2,34 +2,24 @@
 //! of the work tables that each needs.
 
 use crate::declared::*;
-use crate::ours;
+use crate::records::{records, COUNT};
 use crate::rules::AT_LEAST;
-use crate::terrains::{Figure, Rows, Terrain};
+use crate::tables::{whole_need, Need, Tables};
+use crate::terrains::{Rows, Terrain};
 use crate::{shown, timed};
 use std::time::Duration;
-
-/// The four tables, lent to every call.
-struct Tables {
-    lines: Vec<u32>,
-    links: Vec<u32>,
-    points: Vec<u16>,
-    directory: Vec<u32>,
-}
-
-/// The words that each table needs, in the order above.
-type Need = [usize; 4];
 
 /// Prints the times and the words of a terrain, and returns the line to close with.
 pub fn bench((name, make, threshold): Rows, runs: usize) -> String {
     let terrain = make();
-    let whole_need = whole_need(&terrain, threshold);
+    let whole_need = whole_need(&terrain, threshold, RECORD_WORDS);
     let mut whole = Tables::new(whole_need);
-    let rings = whole.draw(&terrain, threshold);
+    let rings = whole.draw(contour_rings, &terrain, threshold);
     let need = check(name, &terrain, threshold, &whole, rings);
     let mut rows = Tables::new(need);
     let [mut by_rows, mut at_once] = [Duration::MAX; 2];
     for _ in 0..runs {
-        at_once = at_once.min(timed(|| whole.draw(&terrain, threshold)).0);
+        at_once = at_once.min(timed(|| whole.draw(contour_rings, &terrain, threshold)).0);
         by_rows = by_rows.min(timed(|| rows.draw_rows(&terrain, threshold, |_, _| ())).0);
     }
     let ([lines, links, ..], [whole_lines, whole_links, ..]) = (need, whole_need);
@@ -46,34 +36,23 @@ pub fn bench((name, make, threshold): Rows, runs: usize) -> String {
     format!("times {name} {:.2}", by_rows / at_once)
 }
 
-/// What `contour_rings` needs, with points and directory for a ring of every four segments.
-fn whole_need(terrain: &Terrain, threshold: f64) -> Need {
-    let [segments, peak] = ours::report(terrain, Figure::Rings(threshold), AT_LEAST);
-    let most_rings = segments / 4;
-    [
-        terrain.dx + 2 + 4 * peak,
-        2 * segments,
-        2 * (segments + most_rings),
-        4 * most_rings,
-    ]
-}
-
 /// All calls together give the rings of the whole form, or there is nothing to time. Returns the words that they need:
 /// of the work tables those that the end leaves 0, where every word was another before.
 fn check(name: &str, terrain: &Terrain, threshold: f64, whole: &Tables, rings: u32) -> Need {
-    let mut tables = Tables::new(whole_need(terrain, threshold));
+    let mut tables = Tables::new(whole_need(terrain, threshold, RECORD_WORDS));
     tables.lines.fill(u32::MAX);
     tables.links.fill(u32::MAX);
     let (mut given, mut counts) = (Vec::new(), Vec::new());
     let [mut most_points, mut most_records] = [0; 2];
-    tables.draw_rows(terrain, threshold, |points, records| {
+    tables.draw_rows(terrain, threshold, |points, directory| {
         most_points = most_points.max(points.len());
-        most_records = most_records.max(records.len());
+        most_records = most_records.max(directory.len());
         given.extend_from_slice(points);
-        counts.extend(records.chunks_exact(4).map(|record| record[1]));
+        counts.extend(records(directory).map(|record| record[COUNT]));
     });
-    let records = whole.directory.chunks_exact(4).take(rings as usize);
-    let same = whole.points.starts_with(&given) && records.map(|record| record[1]).eq(counts);
+    let whole_counts = records(&whole.directory).map(|record| record[COUNT]);
+    let same_counts = whole_counts.take(rings as usize).eq(counts);
+    let same = whole.points.starts_with(&given) && same_counts;
     assert!(same, "{name}: the two sides draw different things");
     let zeros = |table: &[u32]| table.iter().take_while(|&&word| word == 0).count();
     let lines = zeros(&tables.lines);
@@ -83,42 +62,6 @@ fn check(name: &str, terrain: &Terrain, threshold: f64, whole: &Tables, rings: u
 }
 
 impl Tables {
-    fn new([lines, links, points, directory]: Need) -> Self {
-        Tables {
-            lines: vec![0; lines],
-            links: vec![0; links],
-            points: vec![0; points],
-            directory: vec![0; directory],
-        }
-    }
-
-    /// The whole terrain at once; returns how many rings there are.
-    fn draw(&mut self, terrain: &Terrain, threshold: f64) -> u32 {
-        let Terrain { dx, dy, ref values } = *terrain;
-        let mut rings = 0;
-        let number = unsafe {
-            contour_rings(
-                values.as_ptr(),
-                values.len(),
-                threshold,
-                AT_LEAST.0,
-                dx,
-                dy,
-                self.lines.as_mut_ptr(),
-                self.lines.len(),
-                self.links.as_mut_ptr(),
-                self.links.len(),
-                self.points.as_mut_ptr(),
-                self.points.len(),
-                self.directory.as_mut_ptr(),
-                self.directory.len(),
-                &mut rings,
-            )
-        };
-        assert!(number == 0, "refusal {number}");
-        rings
-    }
-
     /// Every call of the row form. What each gives out, points and records, is handed on.
     fn draw_rows(
         &mut self,
@@ -134,9 +77,9 @@ impl Tables {
         let rows = values.chunks_exact(dx).map(Some);
         for row in rows.chain([None]) {
             let rings = self.next(&mut state, row);
-            let records = &self.directory[..4 * rings as usize];
-            let points: u32 = records.chunks_exact(4).map(|record| record[1]).sum();
-            given(&self.points[..2 * points as usize], records);
+            let directory = &self.directory[..RECORD_WORDS * rings as usize];
+            let points: u32 = records(directory).map(|record| record[COUNT]).sum();
+            given(&self.points[..2 * points as usize], directory);
         }
     }
 

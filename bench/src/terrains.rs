@@ -75,7 +75,8 @@ pub const LINES: [Line; 15] = [
     ("lines-noise-2048", || noise(2_048, 2_048), Lines(0.5), Crate),
 ];
 
-/// A line that times the writer, a ring's fate, or both rules: its name, its terrain, and the threshold.
+/// A line that times the writer, a ring's fate, both rules, or an older library: its name, its terrain, and the
+/// threshold.
 pub type Text = (&'static str, fn() -> Terrain, f64);
 
 pub const TEXTS: [Text; 2] = [
@@ -109,6 +110,10 @@ pub const WHY: [Text; 3] = [
     ("why-1024", || noise(1_024, 1_024), 0.5),
     ("why-2048", || noise(2_048, 2_048), 0.5),
 ];
+
+/// The terrain whose rings an older library draws too.
+#[cfg(feature = "before")]
+pub const AREA: Text = ("area-2048", || noise(2_048, 2_048), 0.5);
 
 impl Terrain {
     fn new(dx: usize, dy: usize, mut height: impl FnMut(usize, usize) -> f64) -> Self {

@@ -1,6 +1,7 @@
 //! Times our library's text of a contour, and beside it turn by turn that of the plain writer, over the same tables.
 
 use crate::ours::{self, Drawn};
+use crate::records::{CLASS, OWNER};
 use crate::terrains::{Figure, Text};
 use crate::{geojson, median, shown, timed};
 use std::iter::once;
@@ -41,17 +42,17 @@ pub fn bench((name, make, threshold): Text, runs: usize) -> String {
 
 /// The plain writer's text. The holes of each polygon are gathered first.
 fn plain(drawn: &Drawn) -> Vec<u8> {
-    let records: Vec<[u32; 4]> = drawn.records().collect();
+    let records: Vec<&[u32]> = drawn.records().collect();
     let mut holes = vec![Vec::new(); records.len()];
-    for hole in records.iter().filter(|record| record[2] == 1) {
-        if let Some(holes) = holes.get_mut(hole[3] as usize) {
+    for hole in records.iter().filter(|record| record[CLASS] == 1) {
+        if let Some(holes) = holes.get_mut(hole[OWNER] as usize) {
             holes.push(*hole);
         }
     }
     let with_holes = records.iter().zip(&holes);
-    let polygons = with_holes.filter(|(record, _)| record[2] == 0);
+    let polygons = with_holes.filter(|(record, _)| record[CLASS] == 0);
     geojson::text(polygons.map(|(polygon, holes)| {
         let rings = once(polygon).chain(holes);
-        rings.map(|record| drawn.halves(*record))
+        rings.map(|record| drawn.halves(record))
     }))
 }

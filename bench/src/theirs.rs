@@ -1,6 +1,7 @@
 //! The crate's builds of the same.
 
 use crate::ours::Drawn;
+use crate::records::{CLASS, OWNER};
 use crate::terrains::{Figure, Terrain, ORIGIN, STEP};
 use contour::ContourBuilder;
 
@@ -77,15 +78,15 @@ fn patterns(line: &[contour::Pt]) -> Words {
 /// The same groups of our own build: bare rings and polygons by record number, and behind a polygon the holes
 /// that it owns.
 pub fn groups_of(drawn: &Drawn) -> Vec<Vec<Words>> {
-    let records: Vec<[u32; 4]> = drawn.records().collect();
+    let records: Vec<&[u32]> = drawn.records().collect();
     let mut groups = vec![Vec::new(); records.len()];
-    let is_hole = |record: &[u32; 4]| record[2] == 1;
+    let is_hole = |record: &[u32]| record[CLASS] == 1;
     for (number, record) in records.iter().enumerate().filter(|(_, r)| !is_hole(r)) {
-        groups[number].push(drawn.ring(*record));
+        groups[number].push(drawn.ring(record));
     }
     for record in records.iter().filter(|r| is_hole(r)) {
-        if let Some(group) = groups.get_mut(record[3] as usize) {
-            group.push(drawn.ring(*record));
+        if let Some(group) = groups.get_mut(record[OWNER] as usize) {
+            group.push(drawn.ring(record));
         }
     }
     groups.retain(|group| !group.is_empty());

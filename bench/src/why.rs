@@ -1,6 +1,7 @@
 //! Times the fate of one ring of a contour, and beside it turn by turn the check of the ring set, which reads every point once.
 
 use crate::ours;
+use crate::records::{fate, CLASS, OWNER};
 use crate::terrains::{Figure, Text};
 use crate::{median, shown, timed};
 
@@ -9,12 +10,12 @@ use crate::{median, shown, timed};
 pub fn bench((name, make, threshold): Text, runs: usize) -> String {
     let terrain = make();
     let drawn = ours::draw(&terrain, Figure::Contours(threshold));
-    let holes = (0u32..).zip(drawn.records()).filter(|(_, record)| record[2] == 1);
+    let holes = (0u32..).zip(drawn.records()).filter(|(_, record)| record[CLASS] == 1);
     let (ring, record) = holes
-        .max_by_key(|(_, record)| record[3])
+        .max_by_key(|(_, record)| record[OWNER])
         .expect("a terrain with a hole");
     let told = ours::fate(&drawn, ring);
-    assert!(told == [record[2], record[3]], "{name}: another fate");
+    assert!(told == fate(record), "{name}: another fate");
     let [mut other, mut ours] = [0; 2].map(|_| Vec::with_capacity(runs));
     for _ in 0..runs {
         other.push(timed(|| ours::check(&drawn)).0);
@@ -28,7 +29,7 @@ pub fn bench((name, make, threshold): Text, runs: usize) -> String {
         drawn.records().count(),
         drawn.words().count() / 2,
         shown(other),
-        record[3],
+        record[OWNER],
         shown(ours)
     );
     format!("times {name} {:.2}", ours.as_secs_f64() / other.as_secs_f64())

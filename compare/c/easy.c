@@ -1,7 +1,8 @@
 /*
  * contour_easy.h against the exact calls in tables of their own, on random terrains with one set of tables for all,
- * as a whole and row by row; which samples are above by each rule; what it says where it is refused or has no memory,
- * and of rings and vertices; pointers that are NULL with a count of 0; and the words of contour_strerror.
+ * as a whole and row by row; the areas of rings against contour_area, and those of lines against their rings; which
+ * samples are above by each rule; what it says where it is refused or has no memory, and of rings and vertices;
+ * pointers that are NULL with a count of 0; areas in two words; and the words of contour_strerror.
  */
 #include "checks.h"
 
@@ -39,7 +40,8 @@ static void *scarce_again(void *table, size_t bytes) {
 static const contour_placement nowhere = {0, 0, 1, 1}, somewhere = {3, -7, 0.5, -2};
 
 /* Exact tables for the largest terrain that is drawn here. */
-static uint32_t lines[4 * SIDE + SIDE + 2], links[4 * SIDE * SIDE + 4 * SIDE], directory[4 * SIDE * SIDE];
+static uint32_t lines[4 * SIDE + SIDE + 2], links[4 * SIDE * SIDE + 4 * SIDE];
+static uint32_t directory[CONTOUR_DIRECTORY_WORDS(SIDE * SIDE)];
 static uint16_t points[8 * SIDE * SIDE];
 static double vertices[8 * SIDE * SIDE];
 static uint8_t text[1 << 16];
@@ -49,28 +51,56 @@ static uint8_t text[1 << 16];
 
 /* Whether the records in the easy tables are those in ours. */
 static int same_records(const contour_tables *tables, uint32_t rings) {
-    return tables->rings == rings && (rings == 0 || memcmp(tables->directory, directory, 16 * (size_t)rings) == 0);
+    size_t bytes = sizeof *directory * CONTOUR_DIRECTORY_WORDS(rings);
+    return tables->rings == rings && (rings == 0 || memcmp(tables->directory, directory, bytes) == 0);
+}
+
+/* Our record of this number, the words of its points, and these. */
+static const uint32_t *record_of(uint32_t k) {
+    return directory + CONTOUR_DIRECTORY_WORDS(k);
+}
+
+static size_t words_of(uint32_t k) {
+    return CONTOUR_POINT_WORDS(record_of(k)[CONTOUR_RECORD_COUNT]);
+}
+
+static const uint16_t *points_of(uint32_t k) {
+    return points + CONTOUR_POINT_WORDS(record_of(k)[CONTOUR_RECORD_FIRST]);
+}
+
+/* The area of the points of our ring of this number. */
+static int64_t area_of(uint32_t k) {
+    int64_t area = INT64_MIN;
+    CHECK(contour_area(points_of(k), words_of(k), &area) == CONTOUR_OK);
+    return area;
+}
+
+/* Whether a ring has the points of ours, as many, and their area. */
+static int same_points(contour_ring ring, uint32_t k) {
+    return ring.count == record_of(k)[CONTOUR_RECORD_COUNT] && ring.area == area_of(k) &&
+           memcmp(ring.points, points_of(k), sizeof *points * words_of(k)) == 0;
 }
 
 /* Whether each ring of the easy tables has the points and the record that ours has. */
 static int same_rings(const contour_tables *tables, uint32_t rings) {
     int same = same_records(tables, rings);
     for (uint32_t k = 0; same && k < rings; k++) {
-        const uint32_t *record = directory + 4 * k;
         contour_ring ring = contour_easy_ring(tables, k);
-        same = ring.number == k && ring.count == record[1] && ring.ring_class == record[2] &&
-               ring.owner == record[3] && memcmp(ring.points, points + 2 * record[0], 4 * (size_t)record[1]) == 0;
+        same = ring.number == k && ring.ring_class == record_of(k)[CONTOUR_RECORD_CLASS] &&
+               ring.owner == record_of(k)[CONTOUR_RECORD_OWNER] && same_points(ring, k);
     }
     return same;
 }
 
-static int same_lines(const contour_tables *tables, uint32_t rings) {
+/* Whether each line of the easy tables has the vertices and the record that ours has, and the area of the ring that it
+ * was made from. */
+static int same_lines(const contour_tables *tables, uint32_t rings, const int64_t *areas) {
     int same = same_records(tables, rings);
     for (uint32_t k = 0; same && k < rings; k++) {
-        const uint32_t *record = directory + 4 * k;
+        const double *ours = vertices + CONTOUR_POINT_WORDS(record_of(k)[CONTOUR_RECORD_FIRST]);
         contour_line line = contour_easy_line(tables, k);
-        same = line.number == k && line.count == record[1] &&
-               memcmp(line.vertices, vertices + 2 * record[0], 16 * (size_t)record[1]) == 0;
+        same = line.number == k && line.count == record_of(k)[CONTOUR_RECORD_COUNT] && line.area == areas[k] &&
+               memcmp(line.vertices, ours, sizeof *vertices * words_of(k)) == 0;
     }
     return same;
 }
@@ -112,7 +142,7 @@ static int same_smoothing(const contour_tables *tables, contour_terrain t, doubl
 static int same_whys(const contour_tables *tables, contour_terrain terrain, double threshold, uint32_t rule) {
     int same = 1;
     for (uint32_t k = 0; k <= tables->rings; k++) {
-        uint32_t count = k < tables->rings ? directory[4 * k + 1] : 0;
+        uint32_t count = k < tables->rings ? record_of(k)[CONTOUR_RECORD_COUNT] : 0;
         same = same && same_fate(tables, k);
         for (uint32_t polygon = 0; same && polygon <= tables->rings; polygon++) {
             same = same_answer(tables, polygon, k);
@@ -127,6 +157,7 @@ static int same_whys(const contour_tables *tables, contour_terrain terrain, doub
 static void try_terrains(void) {
     contour_tables tables = contour_easy_tables();
     double values[SIDE * SIDE];
+    int64_t areas[SIDE * SIDE];
     for (int n = 0; n < TERRAINS; n++) {
         size_t dx = 1 + below(SIDE), dy = 1 + below(SIDE), count = dx * dy;
         double pair[2] = {below(6), below(6)}, t = pair[0];
@@ -136,6 +167,9 @@ static void try_terrains(void) {
         fill(values, count);
         CHECK(contour_rings(values, count, t, rule, dx, dy, WORK, WORDS(points), WORDS(directory), &r) == CONTOUR_OK);
         CHECK(contour_easy_rings(&tables, terrain, t, rule) == CONTOUR_OK && same_rings(&tables, r));
+        for (uint32_t k = 0; k < r; k++) {
+            areas[k] = area_of(k);
+        }
         CHECK(contour_easy_geojson(&tables) == (r == 0 ? CONTOUR_OK : CONTOUR_BAD_RING_SET));
         CHECK(contour_contours(values, count, t, rule, dx, dy, WORK, WORDS(points), WORDS(directory), &r) ==
               CONTOUR_OK);
@@ -148,7 +182,7 @@ static void try_terrains(void) {
         CHECK(contour_lines(values, count, t, rule, dx, dy, n % 3 != 0, at.x_origin, at.y_origin, at.x_step,
                             at.y_step, WORK, WORDS(vertices), WORDS(directory), &r) == CONTOUR_OK);
         CHECK(contour_easy_lines(&tables, terrain, t, rule, n % 3 != 0, at) == CONTOUR_OK &&
-              same_lines(&tables, r));
+              same_lines(&tables, r, areas));
     }
     contour_easy_free(&tables);
     CHECK(tables.rings == 0 && tables.points == NULL && tables.points_words == 0);
@@ -217,14 +251,14 @@ static void try_full_tables(void) {
         uint32_t rings = side == 1 ? 1 : 4;
         contour_tables tables = contour_easy_tables();
         CHECK(contour_easy_rings(&tables, terrain, 1, CONTOUR_AT_LEAST) == CONTOUR_OK && tables.rings == rings);
-        CHECK(tables.directory_words == 4 * rings && tables.points_words == 10 * rings);
+        CHECK(tables.directory_words == CONTOUR_DIRECTORY_WORDS(rings) && tables.points_words == 10 * rings);
         contour_easy_free(&tables);
         CHECK(contour_easy_lines(&tables, terrain, 0, CONTOUR_MORE_THAN, 0, nowhere) == CONTOUR_OK &&
               tables.rings == rings);
         contour_easy_free(&tables);
         CHECK(contour_easy_isobands(&tables, terrain, pair, 2, CONTOUR_AT_LEAST, 0) == CONTOUR_OK &&
               tables.rings == 2 * rings);
-        CHECK(tables.directory_words == 8 * rings && tables.points_words == 20 * rings);
+        CHECK(tables.directory_words == CONTOUR_DIRECTORY_WORDS(2 * rings) && tables.points_words == 20 * rings);
         contour_easy_free(&tables);
     }
 }
@@ -233,11 +267,9 @@ static void try_full_tables(void) {
 static int same_closed(const contour_rows *rows, uint32_t first) {
     int same = 1;
     for (uint32_t k = 0; same && k < rows->tables.rings; k++) {
-        const uint32_t *record = directory + 4 * (first + k);
         contour_ring ring = contour_easy_row_ring(rows, k);
-        same = ring.number == first + k && ring.count == record[1] && ring.ring_class == CONTOUR_LINE &&
-               ring.owner == CONTOUR_NO_OWNER &&
-               memcmp(ring.points, points + 2 * record[0], 4 * (size_t)record[1]) == 0;
+        same = ring.number == first + k && ring.ring_class == CONTOUR_LINE && ring.owner == CONTOUR_NO_OWNER &&
+               same_points(ring, first + k);
     }
     return same;
 }
@@ -395,6 +427,42 @@ static void try_null(void) {
     CHECK(contour_geojson(NULL, 0, NULL, 0, 0, room, sizeof room, &length) == CONTOUR_OK);
 }
 
+/* An area in a record is in two's complement, its low word first. A ring set is faulty with another area than that of
+ * its ring. */
+static void try_areas(void) {
+    const struct {
+        int64_t area;
+        uint32_t low, high;
+    } areas[] = {
+        {0, 0, 0},
+        {68, 68, 0},
+        {-4, UINT32_MAX - 3, UINT32_MAX},
+        {INT64_C(1) << 32, 0, 1},
+        {-(INT64_C(1) << 32), 0, UINT32_MAX},
+        {INT64_C(1) << 31, UINT32_C(1) << 31, 0},
+        {(INT64_C(1) << 32) + 4, 4, 1},
+        {INT64_C(4) << 32, 0, 4},
+        {INT64_MAX, UINT32_MAX, UINT32_MAX >> 1},
+        {INT64_MIN, 0, UINT32_C(1) << 31},
+    };
+    const uint16_t ring[] = {2, 1, 1, 0, 0, 1, 1, 2, 2, 1};
+    uint32_t record[CONTOUR_RECORD_WORDS];
+    record[CONTOUR_RECORD_FIRST] = 0;
+    record[CONTOUR_RECORD_COUNT] = 5;
+    record[CONTOUR_RECORD_CLASS] = CONTOUR_POLYGON;
+    record[CONTOUR_RECORD_OWNER] = 0;
+    for (size_t n = 0; n < sizeof areas / sizeof *areas; n++) {
+        contour_record_set_area(record, areas[n].area);
+        CHECK(record[CONTOUR_RECORD_AREA_LOW] == areas[n].low && record[CONTOUR_RECORD_AREA_HIGH] == areas[n].high);
+        CHECK(contour_record_area(record) == areas[n].area);
+        CHECK(contour_check(WORDS(ring), WORDS(record), 1) == CONTOUR_BAD_RING_SET);
+    }
+    /* Document 01's row 2. */
+    contour_record_set_area(record, 4);
+    CHECK(contour_check(WORDS(ring), WORDS(record), 1) == CONTOUR_OK);
+    CHECK(contour_check(WORDS(ring), record, CONTOUR_DIRECTORY_WORDS(1) - 1, 1) == CONTOUR_BAD_RING_SET);
+}
+
 /* Each number has words of its own. */
 static void try_words(void) {
     const uint32_t numbers[] = {0, 1, 2, 3, 4, 5, 6, 7, 8, 9, 10, 11, 13, 14, 15, CONTOUR_NO_MEMORY, 1000};
@@ -419,6 +487,7 @@ int main(void) {
     try_refusals();
     try_scarce_memory();
     try_null();
+    try_areas();
     try_words();
     return finish("easy");
 }

@@ -26,7 +26,7 @@ static uint64_t sum(uint64_t so_far, const void *bytes, size_t count) {
 
 static uint64_t sum_of(uint64_t so_far, contour_tables *tables, uint32_t number) {
     so_far = sum(so_far, &number, sizeof number);
-    so_far = sum(so_far, tables->directory, 16 * (size_t)tables->rings);
+    so_far = sum(so_far, tables->directory, sizeof *tables->directory * CONTOUR_DIRECTORY_WORDS(tables->rings));
     for (uint32_t k = 0; k < tables->rings; k++) {
         contour_ring ring = contour_easy_ring(tables, k);
         so_far = sum(so_far, ring.points, 4 * (size_t)ring.count);

@@ -2,7 +2,9 @@
 //! how it reads. S and H are counted from the samples; our library has no part in it.
 
 use crate::counts::{peak_by_lookup, Counts};
+use crate::oracle::signed_area;
 use crate::random::Random;
+use crate::region_answers::area_number;
 use crate::rings::{two_valued, Grid};
 use crate::rules::{AT_LEAST, MORE_THAN};
 use std::fmt::Write;
@@ -78,8 +80,8 @@ fn random() -> impl Iterator<Item = Grid> {
     })
 }
 
-/// One grid: its sides, a number a row, S, H and R, and each ring's point count and points. The samples that are at
-/// least 1 are those above 0, so the crate has to draw the same for both, or the run stops.
+/// One grid: its sides, a number a row, S, H and R, and each ring's point count, area and points. The samples that are
+/// at least 1 are those above 0, so the crate has to draw the same for both, or the run stops.
 fn line(grid: &Grid) -> String {
     let Counts { segments, peak } = Counts::of(grid);
     assert!(peak == peak_by_lookup(grid), "two counts of H");
@@ -90,7 +92,8 @@ fn line(grid: &Grid) -> String {
     assert!(rings == above_zero.rings(), "two drawings of the rings");
     numbers.extend([segments, peak, rings.len()]);
     for ring in &rings {
-        numbers.push(ring.points.len());
+        let area = area_number(signed_area(&ring.points));
+        numbers.extend([ring.points.len(), area as usize]);
         numbers.extend(ring.words.iter().map(|&word| usize::from(word)));
     }
     let mut line = String::new();

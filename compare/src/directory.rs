@@ -1,25 +1,32 @@
-//! The directory of a call. Classes and owners are read off the polygons that the crate hands out, with
-//! rings matched by their vertices, and are worked out by document 01's words from the crate's `area` and
-//! `contains`, unless that takes too long. The two have to agree.
+//! The directory of a call. Areas are the crate's. Classes and owners are read off the polygons that the crate
+//! hands out, with rings matched by their vertices, and are worked out by document 01's words from the crate's
+//! `area` and `contains`, unless that takes too long. The two have to agree.
 
 use crate::asked::Asked;
 use crate::ffi::Answer;
 use crate::kinds::Kind;
-use crate::oracle;
+use crate::oracle::{self, signed_area};
+use crate::records::{set_area, Fate, Record};
 use crate::rings::Ring;
+use crate::Pt;
 use contour::ContourBuilder;
 use geo_types::{LineString, MultiPolygon, Polygon};
 use std::collections::{HashMap, VecDeque};
 
 pub const POLYGON: u32 = 0;
 pub const HOLE: u32 = 1;
-const BARE: u32 = 2;
 pub const NOBODY: u32 = 4_294_967_295;
+/// The class and owner of a bare ring or a line.
+pub const BARE: Fate = [2, NOBODY];
 /// Where rings times points are more, the words of document 01 are not worked out a second time.
 const DEAREST: usize = 4_000_000;
 
-/// A class and an owner.
-type Fate = [u32; 2];
+/// The record of a ring whose points stand behind so many others, with the crate's area.
+pub fn record(first: usize, ring: &[Pt], [class, owner]: Fate) -> Record {
+    let mut record = [first as u32, ring.len() as u32, class, owner, 0, 0];
+    set_area(&mut record, signed_area(ring));
+    record
+}
 
 /// All records of the rings, which stand here as their points do, by the crate's polygons.
 pub fn directory(asked: &Asked, rings: &[Ring], polygons: &[Polygon]) -> Vec<u32> {
@@ -30,21 +37,19 @@ pub fn directory(asked: &Asked, rings: &[Ring], polygons: &[Polygon]) -> Vec<u32
     });
     let mut records: Vec<_> = firsts.zip(rings).collect();
     if asked.kind == Kind::Bands {
-        records.sort_by_key(|(_, ring)| area(ring).abs() / 4);
+        records.sort_by_key(|(_, ring)| signed_area(&ring.points).abs() / 4);
     }
     let rings: Vec<&Ring> = records.iter().map(|&(_, ring)| ring).collect();
     let with_fates = records.iter().zip(fates(asked, &rings, polygons));
     with_fates
-        .flat_map(|(&(first, ring), [class, owner])| {
-            [first as u32, ring.points.len() as u32, class, owner]
-        })
+        .flat_map(|(&(first, ring), fate)| record(first, &ring.points, fate))
         .collect()
 }
 
 /// The fates of rings in record order.
 fn fates(asked: &Asked, rings: &[&Ring], polygons: &[Polygon]) -> Vec<Fate> {
     if let Kind::Rings | Kind::Lines = asked.kind {
-        return vec![[BARE, NOBODY]; rings.len()];
+        return vec![BARE; rings.len()];
     }
     let fates = read_off(rings, polygons);
     let points: usize = rings.iter().map(|ring| ring.points.len()).sum();
@@ -118,7 +123,10 @@ fn by_document(kind: Kind, rings: &[&Ring]) -> Vec<Fate> {
             .clone()
             .map(|k| all.clone().filter(|&o| o != k && takes(o, k)).count() % 2 == 0)
             .collect(),
-        _ => rings.iter().map(|ring| area(ring) > 0).collect(),
+        _ => {
+            let areas = rings.iter().map(|ring| signed_area(&ring.points));
+            areas.map(|area| area > 0).collect()
+        }
     };
     all.clone()
         .map(|k| match is_polygon[k] {
@@ -129,11 +137,4 @@ fn by_document(kind: Kind, rings: &[&Ring]) -> Vec<Fate> {
             }
         })
         .collect()
-}
-
-fn area(ring: &Ring) -> i64 {
-    match oracle::area(&ring.points) {
-        Answer::Value(area) => area,
-        _ => unreachable!("the crate refuses no ring"),
-    }
 }

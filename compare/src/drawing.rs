@@ -9,6 +9,7 @@ use crate::lent::{Lent, Room, Table, PEAK, POINTS, RINGS, SEGMENTS};
 use crate::lines::{crate_lines, Pen};
 use crate::moves::{hold_to_crate, smoothed_lines};
 use crate::points::Points;
+use crate::records::{place, records, CLASS, OWNER};
 use crate::rings::{Grid, Ring};
 use crate::rules::AT_LEAST;
 use geo_types::Polygon;
@@ -58,15 +59,13 @@ impl Drawing {
     }
 
     pub fn rings(&self) -> usize {
-        self.directory.len() / 4
+        records(&self.directory).len()
     }
 
     /// Each record's place among the points' words, class and owner.
     pub fn records(&self) -> impl Iterator<Item = (Range<usize>, u32, u32)> + '_ {
-        self.directory.chunks_exact(4).map(|record| {
-            let [first, count] = [record[0], record[1]].map(|number| 2 * number as usize);
-            (first..first + count, record[2], record[3])
-        })
+        let records = records(&self.directory);
+        records.map(|record| (place(record), record[CLASS], record[OWNER]))
     }
 
     /// The words that each table needs.

@@ -52,7 +52,7 @@ impl Rings {
             words: words.to_vec(),
         });
         let rings: Vec<Ring> = rings.collect();
-        let areas = rings.iter().map(|ring| value(oracle::area(&ring.points)));
+        let areas = rings.iter().map(|ring| oracle::signed_area(&ring.points));
         Rings {
             areas: areas.collect(),
             rings,

@@ -1,6 +1,7 @@
 //! A ring set as it is lent to be read, with guards about what stands in memory, and a ring set in words. The writer
 //! and the calls that explain take their sets from here.
 
+use crate::declared::RECORD_WORDS;
 use crate::guarded::Guarded;
 use crate::ring_sets::RingSet;
 use crate::tally::{listed, Tally};
@@ -9,7 +10,7 @@ use crate::tally::{listed, Tally};
 const POINT_GUARD: u16 = 0xCA5E;
 const WORD_GUARD: u32 = 0xC0DE_CA5E;
 /// How many words of a directory a description shows.
-const WORDS_SHOWN: usize = 80;
+const WORDS_SHOWN: usize = 20 * RECORD_WORDS;
 
 pub struct LentSet<'a> {
     pub set: &'a RingSet,

@@ -2,8 +2,10 @@
 //! twice as large, without area; and rings whose points overlap. Number 9 lets all of them pass. Classes and owners
 //! are as they come.
 
+use crate::directory::record;
 use crate::exact::LARGEST;
 use crate::lists::walk;
+use crate::oracle::halved;
 use crate::random::Random;
 use crate::ring_sets::RingSet;
 use crate::text_checks::{random_classes, random_owner};
@@ -59,10 +61,10 @@ pub fn overlapping(random: &mut Random) -> RingSet {
     for (number, &class) in (0..).zip(&classes) {
         let from = random.below(returns.len() - 1);
         let to = random.between(from + 1, returns.len() - 1);
-        let [first, last] = [from, to].map(|k| returns[k] as u32);
+        let [first, last] = [from, to].map(|k| returns[k]);
         let owner = random_owner(random, &classes, number);
-        set.directory
-            .extend([first, last - first + 1, class, owner]);
+        let ring = halved(&set.points[2 * first..2 * last + 2]);
+        set.directory.extend(record(first, &ring, [class, owner]));
     }
     set
 }

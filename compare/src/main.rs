@@ -5,10 +5,12 @@
 
 mod answers;
 mod area_checks;
+mod area_faults;
 mod asked;
 mod bounds;
 mod calls;
 mod counts;
+mod damaged_sets;
 mod directory;
 mod drawing;
 mod entries;
@@ -38,6 +40,7 @@ mod printed;
 mod program;
 mod program_inputs;
 mod random;
+mod records;
 mod refusals;
 mod region_answers;
 mod region_checks;

@@ -6,14 +6,18 @@ use crate::Pt;
 #[path = "../../docs/src/src/area.rs"]
 mod area;
 
-/// Four times the crate's area, which is a whole number for halves that floats hold exactly.
 pub fn area(ring: &[Pt]) -> Answer {
+    Answer::Value(signed_area(ring))
+}
+
+/// Four times the crate's area, which is a whole number for halves that floats hold exactly.
+pub fn signed_area(ring: &[Pt]) -> i64 {
     let value = 4.0 * area::area(ring);
     assert!(
         value == value.trunc() && value.abs() < 9_007_199_254_740_992.0,
         "an area of {value}"
     );
-    Answer::Value(value as i64)
+    value as i64
 }
 
 pub fn contains(outer: &[Pt], tested: &[Pt]) -> Answer {

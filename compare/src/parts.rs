@@ -11,8 +11,8 @@ use crate::text_checks::compare_drawn;
 #[cfg(feature = "why")]
 use crate::why_parts;
 use crate::{
-    area_checks, bounds, grid_refusals, line_checks, lists, printed, refusals, region_checks,
-    ring_checks, rule_parts, set_faults, text_checks,
+    area_checks, bounds, damaged_sets, grid_refusals, line_checks, lists, printed, refusals,
+    region_checks, ring_checks, rule_parts, set_faults, text_checks,
 };
 #[cfg(feature = "rows")]
 use crate::{row_checks, row_faults};
@@ -332,7 +332,7 @@ fn random_texts(tally: &mut Tally, random: &mut Random) -> u64 {
         text_checks::any_sets(t, random)
     });
     tally.part("GeoJSON, damaged ring sets", |t| {
-        set_faults::damaged(t, random, text_checks::compare_any)
+        damaged_sets::damaged(t, random, text_checks::compare_any)
     });
     grids
 }

@@ -6,6 +6,7 @@ use crate::counts::Counts;
 use crate::directory::{crate_polygons, directory};
 use crate::kinds::Kind;
 use crate::random::Random;
+use crate::records::{area, records, AREA_LOW};
 use crate::rings::{Grid, Pair, Ring};
 use crate::rules::{Rule, AT_LEAST, MORE_THAN};
 use std::fmt::Write;
@@ -15,6 +16,8 @@ const SEED: u64 = 0x7265_6769_6F6E;
 const RANDOM: usize = 72;
 /// Stands for the owner of a ring that has none, 4,294,967,295: no number of a text has more digits.
 const NOBODY: u32 = 99_999_999;
+/// Stands for an area of 0, as no number of a text has a sign.
+const NO_AREA: i64 = 50_000_000;
 
 /// A terrain of heights 0 to 9, and two thresholds: the contour's, which is the band's lower one, and the
 /// band's upper one.
@@ -170,7 +173,20 @@ pub fn append_set(line: &mut String, counts: Counts, asked: &Asked, rings: &[Rin
     let points = rings.iter().map(|ring| ring.points.len()).sum();
     append(line, [counts.segments, counts.peak, rings.len(), points]);
     let words = directory(asked, rings, &crate_polygons(asked));
-    append(line, words.into_iter().map(|word| word.min(NOBODY)));
+    for record in records(&words) {
+        append(
+            line,
+            record[..AREA_LOW].iter().map(|&word| word.min(NOBODY)),
+        );
+        append(line, [area_number(area(record))]);
+    }
+}
+
+/// The number of a text for an area. No area is as large as to be taken for nobody.
+pub fn area_number(area: i64) -> i64 {
+    let number = NO_AREA + area;
+    assert!((0..NOBODY.into()).contains(&number), "an area of {area}");
+    number
 }
 
 /// Numbers, each behind a space.

@@ -3,12 +3,14 @@
 //! text is written by two writers, `word_text` and `geojson`, and the latter also writes that of the crate's own
 //! polygons.
 
-use crate::directory::{HOLE, NOBODY, POLYGON};
+use crate::declared::RECORD_WORDS;
+use crate::directory::{record, HOLE, NOBODY, POLYGON};
 use crate::drawing::Drawing;
 use crate::exact::{LARGEST, MOST_POINTS};
 use crate::geojson;
-use crate::oracle::halved;
+use crate::oracle::{halved, signed_area};
 use crate::points::Points;
+use crate::records::{area, fate, place, records, records_mut, set_area, CLASS, COUNT};
 use crate::word_text;
 use crate::Pt;
 use geo_types::LineString;
@@ -31,9 +33,6 @@ pub struct RingSet {
     pub rings: u32,
 }
 
-/// First point, point count, class and owner.
-pub type Record = [u32; 4];
-
 impl RingSet {
     /// The tables of a contour or band.
     pub fn of(drawing: &Drawing) -> Self {
@@ -51,10 +50,21 @@ impl RingSet {
 
     /// One more ring.
     pub fn push(&mut self, ring: &[u16], class: u32, owner: u32) {
-        let [first, count] = [self.points.len(), ring.len()].map(|words| words as u32 / 2);
+        let first = self.points.len() / 2;
         self.points.extend(ring);
-        self.directory.extend([first, count, class, owner]);
+        self.directory
+            .extend(record(first, &halved(ring), [class, owner]));
         self.rings += 1;
+    }
+
+    /// Gives each stated record the area of its points, if these stand in memory, whatever else its ring may be.
+    pub fn right_areas(&mut self) {
+        for record in records_mut(&mut self.directory).take(self.rings as usize) {
+            let ring = self.points.get(place(record)).unwrap_or(&[]);
+            if !ring.is_empty() {
+                set_area(record, signed_area(&halved(ring)));
+            }
+        }
     }
 
     pub fn lent_points(&self) -> &[u16] {
@@ -66,28 +76,27 @@ impl RingSet {
     }
 
     /// The stated records, as far as the directory has them.
-    fn records(&self) -> Vec<Record> {
-        let records = self.lent_directory().chunks_exact(4);
-        let stated = records.take(self.rings as usize);
-        stated.map(|r| [r[0], r[1], r[2], r[3]]).collect()
+    fn records(&self) -> Vec<&[u32]> {
+        let records = records(self.lent_directory());
+        records.take(self.rings as usize).collect()
     }
 
     /// Whether number 9 is due: a directory shorter than the stated rings, or a faulty record.
     pub fn is_faulty(&self) -> bool {
         let records = self.records();
-        let mut numbered = (0..).zip(&records);
-        self.lent_directory().len() < 4 * self.rings as usize
+        let mut numbered = (0..).zip(records.iter().copied());
+        self.lent_directory().len() < RECORD_WORDS * self.rings as usize
             || numbered.any(|(number, record)| self.is_faulty_record(&records, number, record))
     }
 
-    fn is_faulty_record(&self, records: &[Record], number: u32, record: &Record) -> bool {
-        let [_, count, class, owner] = *record;
+    fn is_faulty_record(&self, records: &[&[u32]], number: u32, record: &[u32]) -> bool {
+        let (count, [class, owner]) = (record[COUNT], fate(record));
         let ring = match self.ring(record) {
             None => return true,
             Some(ring) => ring,
         };
         let is_polygon = |number: u32| match records.get(number as usize) {
-            Some(record) => record[2] == POLYGON,
+            Some(record) => record[CLASS] == POLYGON,
             None => false,
         };
         count < FEWEST_POINTS
@@ -99,20 +108,20 @@ impl RingSet {
                 HOLE => owner != NOBODY && !is_polygon(owner),
                 _ => true,
             }
+            || area(record) != signed_area(&halved(ring))
     }
 
     /// The words of a record's points, unless its range is outside the points.
-    fn ring(&self, [first, count, ..]: &Record) -> Option<&[u16]> {
-        let [first, count] = [first, count].map(|&number| 2 * number as usize);
-        self.lent_points().get(first..first + count)
+    fn ring(&self, record: &[u32]) -> Option<&[u16]> {
+        self.lent_points().get(place(record))
     }
 
     /// The point of a stated ring's vertex, if the set, which is without fault, has both.
     #[cfg(feature = "why")]
     pub fn vertex(&self, ring: u32, vertex: u32) -> Option<[u16; 2]> {
-        let record = self.lent_directory().chunks_exact(4).nth(ring as usize);
-        let record = record.filter(|record| ring < self.rings && vertex < record[1])?;
-        let word = 2 * (record[0] + vertex) as usize;
+        let record = records(self.lent_directory()).nth(ring as usize);
+        let record = record.filter(|record| ring < self.rings && vertex < record[COUNT])?;
+        let word = place(record).start + 2 * vertex as usize;
         Some([self.points[word], self.points[word + 1]])
     }
 
@@ -130,9 +139,9 @@ impl RingSet {
         }
         let records = self.records();
         let numbered = (0..).zip(&records);
-        let polygons = numbered.filter(|(_, record)| record[2] == POLYGON);
+        let polygons = numbered.filter(|(_, record)| record[CLASS] == POLYGON);
         let rings = polygons.map(|(number, polygon)| {
-            let holes = records.iter().filter(|r| r[2..] == [HOLE, number]);
+            let holes = records.iter().filter(|r| fate(r) == [HOLE, number]);
             let rings = once(polygon).chain(holes).map(|record| self.ring(record));
             rings.flatten().collect()
         });

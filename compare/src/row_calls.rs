@@ -3,8 +3,11 @@
 
 use crate::asked::Asked;
 use crate::calls::{by_rule, described};
+use crate::declared::RECORD_WORDS;
+use crate::directory::{record, BARE};
 use crate::kinds::Kind;
 use crate::lent::{Lent, Room, Table, RINGS};
+use crate::oracle::halved;
 use crate::points::Points;
 use crate::random::Random;
 use crate::rings::Grid;
@@ -15,8 +18,6 @@ use crate::tally::Tally;
 
 /// The tables whose words a call finds as the last one left them.
 pub const WORK: [Table; 2] = [Table::Lines, Table::Links];
-/// The class and owner of a bare ring.
-const BARE: [u32; 2] = [2, u32::MAX];
 const GUARD: u32 = 0xC0DE_CA5E;
 
 pub struct Feed<'a> {
@@ -114,7 +115,7 @@ impl<'a> Feed<'a> {
             self.grid.dx + 2 + 4 * peak,
             2 * held,
             points,
-            4 * rings.len(),
+            RECORD_WORDS * rings.len(),
         ])
     }
 
@@ -217,7 +218,7 @@ impl<'a> Feed<'a> {
         let rings = &self.turns[self.taken].rings;
         expected.set(RINGS, rings.len() as u32);
         expected.put_points(&Points::Words(rings.concat()));
-        let directory = records(0, rings);
+        let directory = bare_records(0, rings);
         expected.table(Table::Directory)[..directory.len()].copy_from_slice(&directory);
     }
 
@@ -225,7 +226,8 @@ impl<'a> Feed<'a> {
     fn keep(&mut self, lent: &mut Lent) {
         self.left = WORK.map(|table| lent.table(table).to_vec());
         let rings = &self.turns[self.taken].rings;
-        self.directory.extend(records(self.points.len() / 2, rings));
+        let records = bare_records(self.points.len() / 2, rings);
+        self.directory.extend(records);
         self.points.extend(rings.iter().flatten());
         self.taken += 1;
     }
@@ -265,13 +267,11 @@ impl<'a> Feed<'a> {
 }
 
 /// The records of bare rings whose points stand one after the other, behind so many other points.
-fn records(mut first: usize, rings: &[Vec<u16>]) -> Vec<u32> {
+fn bare_records(mut first: usize, rings: &[Vec<u16>]) -> Vec<u32> {
     let mut records = Vec::new();
     for ring in rings {
-        let count = ring.len() / 2;
-        records.extend([first as u32, count as u32]);
-        records.extend(BARE);
-        first += count;
+        records.extend(record(first, &halved(ring), BARE));
+        first += ring.len() / 2;
     }
     records
 }

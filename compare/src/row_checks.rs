@@ -11,6 +11,7 @@ use crate::kinds::Kind;
 use crate::lent::{Lent, Room, Table, RINGS};
 use crate::points::Points;
 use crate::random::Random;
+use crate::records::{records, COUNT};
 use crate::rings::{random_grid, small_grids, two_valued, Grid};
 use crate::row_calls::{compare_begin, new_state, Feed, WORK};
 use crate::row_drawing::{turns, Turn};
@@ -107,7 +108,7 @@ fn hold_turns(grid: &Grid, drawing: &Drawing, turns: &[Turn]) {
         Points::Words(words) => words.iter().eq(rings().flatten()),
         Points::Patterns(_) => unreachable!("the points of rings are words"),
     };
-    let counts = drawing.directory.chunks_exact(4).map(|r| r[1] as usize);
+    let counts = records(&drawing.directory).map(|record| record[COUNT] as usize);
     let as_long = counts.eq(rings().map(|ring| ring.len() / 2));
     assert!(same && as_long, "two drawings of the rings");
     let Counts { segments, peak } = drawing.counts;
@@ -218,7 +219,7 @@ fn compare_whole(
     expected.put_points(&Points::Words(feed.points.clone()));
     let directory = expected.table(Table::Directory);
     directory.copy_from_slice(&feed.directory);
-    expected.set(RINGS, (feed.directory.len() / 4) as u32);
+    expected.set(RINGS, records(&feed.directory).len() as u32);
     let entry = Entry {
         kind: Kind::Rings,
         step: Step::Build,

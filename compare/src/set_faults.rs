@@ -1,18 +1,15 @@
-//! Number 9: each part of document 01's sentence by name, with the neighbour that passes, then ring sets damaged at
-//! random. Which entries a set is handed to is for the caller to say; a faulty one is refused whatever else is asked.
+//! Number 9: each part of document 01's sentence by name, and the area of document 02, with the neighbour that passes.
+//! Which entries a set is handed to is for the caller to say; a faulty one is refused whatever else is asked.
 
-use crate::asked::Asked;
+use crate::area_faults::{faulty_areas, Tried};
+use crate::declared::RECORD_WORDS;
 use crate::directory::{HOLE, NOBODY, POLYGON};
-use crate::drawing::Drawing;
 use crate::exact::{LARGEST, MOST_POINTS};
-use crate::kinds::Kind;
 use crate::random::Random;
+use crate::records::{area, set_area, CLASS, COUNT, FIRST, OWNER};
 use crate::ring_sets::RingSet;
-use crate::rings::{random_grid, random_pair};
 use crate::tally::Tally;
-use crate::text_checks::random_set;
 
-const DAMAGED: usize = 30_000;
 /// The ring of one sample, closed.
 const RING: [u16; 10] = [2, 1, 1, 0, 0, 1, 1, 2, 2, 1];
 /// The classes and owners of the sample set: a hole before its polygon, a dropped hole, a polygon before its hole.
@@ -24,12 +21,8 @@ const FATES: [[u32; 2]; 5] = [
     [HOLE, 3],
 ];
 const RINGS: u32 = FATES.len() as u32;
-
-/// The words of a record.
-const FIRST: usize = 0;
-const COUNT: usize = 1;
-const CLASS: usize = 2;
-const OWNER: usize = 3;
+/// A ring without area: there and back.
+const FLAT: [u16; 8] = [3, 3, 9, 3, 5, 3, 3, 3];
 
 /// Compares one ring set, faulty or not.
 pub type Compare = fn(&mut Tally, &mut Random, &RingSet);
@@ -42,12 +35,18 @@ struct Cases<'a> {
 }
 
 impl Cases<'_> {
-    /// The sample set after a change, which is to pass or to be refused.
+    /// The sample set after a change, which is to pass or to be refused. The areas follow it, so that they hide no
+    /// other fault.
     fn case(&mut self, passes: bool, change: impl FnOnce(&mut RingSet)) {
         let mut set = sample();
         change(&mut set);
+        set.right_areas();
+        self.compare(passes, &set);
+    }
+
+    fn compare(&mut self, passes: bool, set: &RingSet) {
         assert!(set.is_faulty() != passes, "number 9 in two ways");
-        (self.compare)(self.tally, self.random, &set);
+        (self.compare)(self.tally, self.random, set);
     }
 
     fn passes(&mut self, change: impl FnOnce(&mut RingSet)) {
@@ -61,17 +60,33 @@ impl Cases<'_> {
 
 /// Five rings of five points, in the points as in the directory.
 fn sample() -> RingSet {
+    sample_with(RINGS, &[])
+}
+
+/// The same with another ring for this record, if there is such a record.
+fn sample_with(record: u32, ring: &[u16]) -> RingSet {
     let mut set = RingSet::default();
     for (number, [class, owner]) in (0..).zip(FATES) {
-        let ring = RING.map(|coordinate| coordinate + 10 * number);
-        set.push(&ring, class, owner);
+        let own = RING.map(|coordinate| coordinate + 10 * number);
+        let ring = if u32::from(number) == record {
+            ring
+        } else {
+            &own
+        };
+        set.push(ring, class, owner);
     }
     set
 }
 
+/// The words of a record.
+fn words(set: &mut RingSet, record: u32) -> &mut [u32] {
+    let first = RECORD_WORDS * record as usize;
+    &mut set.directory[first..first + RECORD_WORDS]
+}
+
 /// A word of a record.
 fn word(set: &mut RingSet, record: u32, word: usize) -> &mut u32 {
-    &mut set.directory[4 * record as usize + word]
+    &mut words(set, record)[word]
 }
 
 /// The words of a record's points in the sample set.
@@ -80,7 +95,7 @@ fn points(set: &mut RingSet, record: u32) -> &mut [u16] {
     &mut set.points[first..first + RING.len()]
 }
 
-/// The cases that document 01 names, in its order, and their neighbours that pass.
+/// The cases that documents 01 and 02 name, in their order, and their neighbours that pass.
 pub fn listed(tally: &mut Tally, random: &mut Random, compare: Compare) {
     let cases = &mut Cases {
         tally,
@@ -96,26 +111,32 @@ pub fn listed(tally: &mut Tally, random: &mut Random, compare: Compare) {
     classes(cases);
     owners_of_polygons(cases);
     owners_of_holes(cases);
+    areas(cases);
 }
 
-/// The words that are missing stand behind those lent, and so do words that nobody asks for.
+/// The words that are missing stand behind those lent, and so do words that nobody asks for. Of some numbers of rings
+/// the words come back to those that are there in 32 bits.
 fn directories(cases: &mut Cases) {
-    for words in 1..=4 {
+    for words in 1..=RECORD_WORDS {
         cases.faulty(|set| set.withheld[1] = words);
         cases.passes(|set| set.directory.extend(vec![u32::MAX; words]));
     }
     cases.faulty(|set| {
-        set.directory.extend([0, 5, HOLE, NOBODY]);
+        set.directory.extend_from_within(..RECORD_WORDS);
         set.withheld[1] = 1;
         set.rings += 1;
     });
-    for rings in [6, 7, 1 << 30, (1 << 30) + 5, 1 << 31, u32::MAX] {
+    for rings in [6, 7, 1 << 30, 1 << 31, u32::MAX] {
+        cases.faulty(|set| set.rings = rings);
+    }
+    let wrapped = u32::MAX / RECORD_WORDS as u32 + 1;
+    for rings in [(1 << 30) + 5, (1 << 31) + 5, wrapped, wrapped + 4] {
         cases.faulty(|set| set.rings = rings);
     }
     for (rings, passes) in [(0, true), (1, false), (2, true), (3, true), (4, true)] {
         cases.case(passes, |set| set.rings = rings);
     }
-    for number in 0..4 {
+    for number in 0..RECORD_WORDS {
         cases.passes(|set| {
             *word(set, 4, number) = 9_999;
             set.rings = 4;
@@ -285,63 +306,32 @@ fn owners_of_holes(cases: &mut Cases) {
     }
 }
 
+/// Areas of one ring that are not its own, in every way: of a ring that runs either way, of one without area, and of
+/// two that run round so often that their areas need both words.
+fn areas(cases: &mut Cases) {
+    let mut tried = Tried::default();
+    let round = [0, 0, LARGEST, 0, LARGEST, LARGEST, 0, LARGEST];
+    let wound = [&round.repeat(40)[..], &round[..2]].concat();
+    for ring in [&RING[..], &turned(&RING), &FLAT, &wound, &turned(&wound)] {
+        for record in 0..RINGS {
+            let mut set = sample_with(record, ring);
+            cases.compare(true, &set);
+            for (fault, other) in faulty_areas(area(words(&mut set, record))) {
+                set_area(words(&mut set, record), other);
+                cases.compare(false, &set);
+                tried.count(fault);
+            }
+        }
+    }
+    cases.tally.area_faults(tried);
+}
+
+/// A ring run the other way.
+fn turned(ring: &[u16]) -> Vec<u16> {
+    ring.chunks_exact(2).rev().flatten().copied().collect()
+}
+
 /// The records of the sample set that have this class.
 fn numbers_of(class: u32) -> impl Iterator<Item = u32> {
     (0..RINGS).filter(move |&number| FATES[number as usize][0] == class)
-}
-
-/// Contours, bands and other sets with a few words changed, a few not lent, or another number of rings stated.
-pub fn damaged(tally: &mut Tally, random: &mut Random, compare: Compare) {
-    for _ in 0..DAMAGED {
-        let mut set = match random.below(3) {
-            0 => random_set(random),
-            _ => drawn_set(random),
-        };
-        for _ in 0..random.between(1, 2) {
-            damage(random, &mut set);
-        }
-        compare(tally, random, &set);
-    }
-}
-
-/// A contour or band of a small terrain.
-fn drawn_set(random: &mut Random) -> RingSet {
-    let [dx, dy] = [0; 2].map(|_| random.between(1, 6));
-    let grid = random_grid(random, dx, dy);
-    let pair = random_pair(random, &grid.values);
-    let asked = match random.below(2) {
-        0 => Asked::new(Kind::Contours, &grid),
-        _ => Asked::band(&grid, &pair),
-    };
-    let drawing = Drawing::of(&asked).expect("a question that passes");
-    RingSet::of(&drawing)
-}
-
-/// One change. No more words are withheld than stand there, which may be one.
-fn damage(random: &mut Random, set: &mut RingSet) {
-    let rings = set.rings as usize;
-    let records = rings.min(set.directory.len() / 4);
-    if records == 0 || set.points.is_empty() {
-        set.rings = random.below(3) as u32;
-        return;
-    }
-    let record = 4 * random.below(records);
-    let place = random.below(set.points.len());
-    let owner = random.below(rings + 1) as u32;
-    let words = &mut set.directory[record..record + 4];
-    match random.below(10) {
-        0 => set.withheld = [random.below(3).min(set.points.len()), 0],
-        1 => set.withheld = [0, random.below(5)],
-        2 => set.rings = random.between(rings - 1, rings + 1) as u32,
-        3 => {
-            set.points[place] =
-                random.between(usize::from(LARGEST) - 1, usize::from(LARGEST) + 2) as u16
-        }
-        4 => set.points[place] = random.below(usize::from(LARGEST)) as u16,
-        5 => words[FIRST] = random.below(set.points.len() / 2 + 1) as u32,
-        6 => words[COUNT] = random.below(words[COUNT] as usize + 2) as u32,
-        7 => words[CLASS] = random.below(3) as u32,
-        8 => words[OWNER] = random.pick(&[owner, NOBODY]),
-        _ => words[random.below(4)] = random.next() as u32,
-    }
 }

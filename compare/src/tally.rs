@@ -1,5 +1,6 @@
 //! Counting and reporting. Each comparison with our library goes through `Tally::same`.
 
+use crate::area_faults::Tried;
 use crate::ffi::Answer;
 
 /// How many differences are described; the rest are only counted.
@@ -13,6 +14,7 @@ pub struct Tally {
     differ: u64,
     float_asked: u64,
     float_differs: u64,
+    area_faults: Tried,
     notes: Vec<String>,
     lacks: bool,
 }
@@ -53,6 +55,12 @@ impl Tally {
         self.float_differs += u64::from(exact != floats);
     }
 
+    /// The areas, each not its ring's, that a part has tried. The run stops if it left out one of the ways.
+    pub fn area_faults(&mut self, tried: Tried) {
+        tried.hold();
+        self.area_faults.add(tried);
+    }
+
     /// Runs one part of the comparison and says how much it compared.
     pub fn part(&mut self, name: &str, compare: impl FnOnce(&mut Tally)) {
         let (compared, differ) = (self.compared, self.differ);
@@ -68,6 +76,10 @@ impl Tally {
             "not counted: on slopes that no cell draws the crate's float test differs from the exact \
              one in {} of {} calls",
             self.float_differs, self.float_asked
+        );
+        println!(
+            "ring sets with an area for their one fault: {}",
+            self.area_faults.shown()
         );
         for note in &self.notes {
             println!("{note}");

@@ -1,10 +1,13 @@
 //! The writer on ring sets without fault: those of contours and bands, those that nobody draws, and the largest.
 
 use crate::asked::Asked;
-use crate::directory::{HOLE, NOBODY, POLYGON};
+use crate::declared::RECORD_WORDS;
+use crate::directory::{record, HOLE, NOBODY, POLYGON};
 use crate::drawing::Drawing;
 use crate::exact::{LARGEST, MOST_POINTS};
+use crate::oracle::halved;
 use crate::random::Random;
+use crate::records::{area, set_area, COUNT, FIRST, OWNER};
 use crate::ring_sets::{drawn_text, RingSet};
 use crate::tally::Tally;
 use crate::text_calls::{compare_set, Expected};
@@ -71,9 +74,10 @@ pub fn random_set(random: &mut Random) -> RingSet {
         }
     }
     for _ in 0..random.below(rings + 1) {
-        let [from, to] = [0; 2].map(|_| 4 * random.below(rings));
-        set.directory.copy_within(from..from + 2, to);
+        let [from, to] = [0; 2].map(|_| RECORD_WORDS * random.below(rings));
+        set.directory.copy_within(from + FIRST..=from + COUNT, to);
     }
+    set.right_areas();
     if random.once_in(3) {
         let [words, more_words] = [0; 2].map(|_| random.below(9));
         extend(random, &mut set.points, words);
@@ -110,7 +114,7 @@ fn extend<W: From<u16>>(random: &mut Random, words: &mut Vec<W>, count: usize) {
 }
 
 /// The bound of points, where the count alone decides: one ring of 67,108,864 points, one of a point more, and four
-/// rings of as many points as may be, whose text has more than 2^32 bytes.
+/// rings of as many points as may be, whose text has more than 2^32 bytes. Then one of these with an area one off.
 pub fn most_points(tally: &mut Tally, random: &mut Random) {
     let mut points = EQUALLY_LONG.repeat(MOST_POINTS / 4);
     let end = points.len();
@@ -120,13 +124,20 @@ pub fn most_points(tally: &mut Tally, random: &mut Random) {
         points,
         ..RingSet::default()
     };
-    for (rings, more) in [(1, 0), (1, 1), (4, 0)] {
-        let count = (MOST_POINTS + more) as u32;
-        let records = (0..rings).map(|number| [0, count, POLYGON, number]);
+    let points = halved(&set.points);
+    for (rings, more, off) in [(1, 0, 0), (1, 1, 0), (4, 0, 0), (1, 0, 1)] {
+        let ring = &points[..MOST_POINTS + more];
+        let mut long = record(0, ring, [POLYGON, 0]);
+        let area = area(&long) + off;
+        set_area(&mut long, area);
+        let records = (0..rings).map(|number| {
+            long[OWNER] = number;
+            long
+        });
         set.directory = records.flatten().collect();
         set.rings = rings;
-        let expected = match more {
-            0 => Expected::Long(most_bytes(rings)),
+        let expected = match (more, off) {
+            (0, 0) => Expected::Long(most_bytes(rings)),
             _ => Expected::Faulty,
         };
         compare_set(tally, random, &set, expected);

@@ -137,7 +137,7 @@ fn pairs(random: &mut Random, rings: &Rings, fates: &[(usize, Fate)]) -> Vec<(us
     pairs
 }
 
-/// Numbers from this one on: the first two, two whose words or records come back to the first in 32 bits, and the last.
+/// Numbers from this one on: the first two, two whose words or bytes come back to the first in 32 bits, and the last.
 pub fn absent(first: u32) -> [u32; 5] {
     let next = first.saturating_add(1);
     [first, next, 1 << 30, 1 << 31, u32::MAX].map(|number| number.max(first))

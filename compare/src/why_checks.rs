@@ -7,6 +7,7 @@ use crate::drawing::Drawing;
 use crate::fates::Rings;
 use crate::kinds::Kind;
 use crate::random::Random;
+use crate::records::{self, place, records, records_mut, CLASS, OWNER};
 use crate::ring_sets::RingSet;
 use crate::rings::{random_grid, small_grids, Grid};
 use crate::shapes::{self, LONGEST_SIDE};
@@ -27,8 +28,8 @@ pub fn compare_asked(tally: &mut Tally, random: &mut Random, asked: &Asked) -> D
     let set = RingSet::of(&drawing);
     let fates = compare_fates(tally, random, &set, &Rings::drawn(&set));
     for (ring, fate) in fates {
-        let record = &drawing.directory[4 * ring..4 * ring + 4];
-        let same = record[2..] == [fate.class, fate.owner];
+        let record = records(&drawing.directory).nth(ring);
+        let same = record.map(records::fate) == Some([fate.class, fate.owner]);
         assert!(
             same || asked.kind != Kind::Contours,
             "the crate's polygons are not those of its area and contains"
@@ -50,28 +51,28 @@ fn relabel(random: &mut Random, set: &mut RingSet) {
     let share = random.below(9);
     let classes = match random.below(3) {
         0 => {
-            let classes = set.directory.chunks_exact(4).map(|record| record[2]);
+            let classes = records(&set.directory).map(|record| record[CLASS]);
             let exchanged = classes.map(|class| if class == HOLE { POLYGON } else { HOLE });
             exchanged.collect()
         }
         _ => random_classes(random, set.rings as usize, share),
     };
-    for (number, record) in (0..).zip(set.directory.chunks_exact_mut(4)) {
-        record[2] = classes[number as usize];
-        record[3] = random_owner(random, &classes, number);
+    for (number, record) in (0..).zip(records_mut(&mut set.directory)) {
+        record[CLASS] = classes[number as usize];
+        record[OWNER] = random_owner(random, &classes, number);
     }
 }
 
 /// Each ring run the other way or not: polygons become holes, most of them dropped, and holes polygons.
 fn turn(random: &mut Random, set: &mut RingSet) {
-    for record in set.directory.chunks_exact(4) {
-        let [first, count] = [record[0], record[1]].map(|number| 2 * number as usize);
+    for record in records(&set.directory) {
         if random.once_in(2) {
-            let ring = &mut set.points[first..first + count];
+            let ring = &mut set.points[place(record)];
             ring.reverse();
             ring.chunks_exact_mut(2).for_each(|point| point.swap(0, 1));
         }
     }
+    set.right_areas();
 }
 
 /// A terrain's contour.

@@ -4,8 +4,8 @@
 use crate::random::Random;
 use crate::tally::Tally;
 use crate::{
-    line_checks, region_checks, ring_checks, set_faults, why_checks, why_refusals, why_sets,
-    why_vertices,
+    damaged_sets, line_checks, region_checks, ring_checks, set_faults, why_checks, why_refusals,
+    why_sets, why_vertices,
 };
 
 /// All parts, the random ones in so many rounds.
@@ -80,7 +80,7 @@ fn random_sets(tally: &mut Tally, random: &mut Random) {
         why_sets::any_slopes(t, random)
     });
     tally.part("why, damaged ring sets", |t| {
-        set_faults::damaged(t, random, why_sets::compare_any)
+        damaged_sets::damaged(t, random, why_sets::compare_any)
     });
 }
 

@@ -5,6 +5,7 @@ use crate::directory::POLYGON;
 use crate::grid_refusals::{listed_shapes, speckled, MOST_VALUES};
 use crate::kinds::Kind;
 use crate::random::Random;
+use crate::records::{area, set_area};
 use crate::ring_sets::RingSet;
 use crate::rings::Grid;
 use crate::rules::{AT_LEAST, MORE_THAN};
@@ -21,7 +22,14 @@ const VERTICES: [u32; 6] = [0, 4, 5, 6, 7, u32::MAX];
 /// Every terrain that draws 1 or 2 or does not, by each rule, with sets that draw 9 or do not, and numbers that draw 15
 /// or do not.
 pub fn listed(tally: &mut Tally, random: &mut Random) {
-    let sets = [RingSet::default(), sound(), faulty(), stated(0), stated(2)];
+    let sets = [
+        RingSet::default(),
+        sound(),
+        open(),
+        misstated(),
+        stated(0),
+        stated(2),
+    ];
     for set in &sets {
         compare_made(tally, random, set);
     }
@@ -52,10 +60,19 @@ fn sound() -> RingSet {
     set
 }
 
-/// A last point that is not the first.
-fn faulty() -> RingSet {
+/// A last point that is not the first. The area is that of the points.
+fn open() -> RingSet {
     let mut set = sound();
     set.points[10] = 3;
+    set.right_areas();
+    set
+}
+
+/// An area that is not the ring's.
+fn misstated() -> RingSet {
+    let mut set = sound();
+    let area = area(&set.directory) + 1;
+    set_area(&mut set.directory, area);
     set
 }
 

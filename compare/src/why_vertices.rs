@@ -11,6 +11,7 @@ use crate::lent_sets::LentSet;
 use crate::lines::{random_line_grid, Pen, PLACEMENTS};
 use crate::moves::{hold_to_crate, Smoothing};
 use crate::random::Random;
+use crate::records::{records, COUNT, FIRST};
 use crate::ring_sets::{RingSet, FAULTY};
 use crate::rings::{Grid, Ring};
 use crate::shapes::{self, LONGEST_SIDE};
@@ -78,7 +79,7 @@ impl<'a> Vertices<'a> {
     /// ring has, with one that comes back to the first point in 32 bits.
     fn compare_all(&self, tally: &mut Tally, random: &mut Random) {
         let set = self.lent.set;
-        let counts = (0..).zip(set.directory.chunks_exact(4).map(|record| record[1]));
+        let counts = (0..).zip(records(&set.directory).map(|record| record[COUNT]));
         let all = counts.flat_map(|(ring, count)| (0..count).map(move |vertex| (ring, vertex)));
         let all: Vec<(u32, u32)> = all.collect();
         let most = if all.len() > EVERY { SOME } else { EVERY };
@@ -89,11 +90,12 @@ impl<'a> Vertices<'a> {
             self.compare(tally, ring, 0);
         }
         let ring = random.below(set.rings.max(1) as usize) as u32;
-        if let Some([first, count, ..]) = set.directory.chunks_exact(4).nth(ring as usize) {
-            for vertex in absent(*count) {
+        if let Some(record) = records(&set.directory).nth(ring as usize) {
+            let [first, count] = [FIRST, COUNT].map(|word| record[word]);
+            for vertex in absent(count) {
                 self.compare(tally, ring, vertex);
             }
-            self.compare(tally, ring, first.wrapping_neg().max(*count));
+            self.compare(tally, ring, first.wrapping_neg().max(count));
         }
         self.close(tally);
     }

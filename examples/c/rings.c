@@ -61,14 +61,27 @@ static struct tables lend_tables(void) {
     return t;
 }
 
-static void print_ring(uint32_t number, const uint16_t *ring, size_t words) {
-    int64_t area;
+/* A ring: its record, its points, and how many words these have. */
+struct ring {
+    const uint32_t *record;
+    const uint16_t *points;
+    size_t words;
+};
+
+static struct ring ring_of(const struct tables *t, uint32_t number) {
+    struct ring ring;
+    ring.record = t->directory + CONTOUR_DIRECTORY_WORDS(number);
+    ring.points = t->points + 2 * (size_t)ring.record[CONTOUR_RECORD_FIRST];
+    ring.words = 2 * (size_t)ring.record[CONTOUR_RECORD_COUNT];
+    return ring;
+}
+
+static void print_ring(uint32_t number, struct ring ring) {
     printf("ring %" PRIu32 ": ", number);
-    for (size_t k = 0; k < words; k += 2) {
-        printf("(%d,%d)", ring[k], ring[k + 1]);
+    for (size_t k = 0; k < ring.words; k += 2) {
+        printf("(%d,%d)", ring.points[k], ring.points[k + 1]);
     }
-    demand(contour_area(ring, words, &area));
-    printf(" area %" PRId64 "\n", area);
+    printf(" area %" PRId64 "\n", contour_record_area(ring.record));
 }
 
 int main(void) {
@@ -78,13 +91,11 @@ int main(void) {
     demand(contour_rings(values, COUNT, threshold, rule, DX, DY, t.lines, t.lines_words, t.links, t.links_words,
                          t.points, t.points_words, t.directory, t.directory_words, &rings));
     for (uint32_t k = 0; k < rings; k++) {
-        const uint32_t *record = t.directory + CONTOUR_DIRECTORY_WORDS(k);
-        print_ring(k, t.points + 2 * record[CONTOUR_RECORD_FIRST], 2 * (size_t)record[CONTOUR_RECORD_COUNT]);
+        print_ring(k, ring_of(&t, k));
     }
 
-    const uint32_t *hole = t.directory, *outer = t.directory + CONTOUR_RECORD_WORDS;
-    demand(contour_contains(t.points + 2 * outer[0], 2 * (size_t)outer[1], t.points + 2 * hole[0],
-                            2 * (size_t)hole[1], &answer));
+    struct ring hole = ring_of(&t, 0), outer = ring_of(&t, 1);
+    demand(contour_contains(outer.points, outer.words, hole.points, hole.words, &answer));
     printf("ring 1 against ring 0: %" PRId32 "\n", answer);
 
     number = contour_first_report(values, COUNT - 1, threshold, rule, DX, DY, &segments, &peak);

@@ -102,20 +102,33 @@ static void print_smoothing(const char *title, contour_tables *tables, contour_t
     }
 }
 
+/* A ring set that is made by hand: its one record has the area of its points. */
+static void print_hole_alone(void) {
+    const uint16_t points[] = {3, 4, 2, 3, 3, 2, 4, 3, 3, 4};
+    const size_t words = sizeof points / sizeof *points;
+    uint32_t record[CONTOUR_RECORD_WORDS];
+    const struct ring_set hole = {points, words, record, CONTOUR_RECORD_WORDS, 1};
+    int64_t area;
+    demand(contour_area(points, words, &area));
+    record[CONTOUR_RECORD_FIRST] = 0;
+    record[CONTOUR_RECORD_COUNT] = (uint32_t)(words / 2);
+    record[CONTOUR_RECORD_CLASS] = CONTOUR_HOLE;
+    record[CONTOUR_RECORD_OWNER] = CONTOUR_NO_OWNER;
+    contour_record_set_area(record, area);
+    print_fates("a hole alone", &hole);
+}
+
 int main(void) {
     const double frame_values[] = {1, 1, 1, 1, 0, 1, 1, 1, 1}, row_values[] = {0, 4};
     const double nested_values[] = {1, 1, 1, 1, 1, 1, 0, 0, 0, 1, 1, 0, 1, 0, 1, 1, 0, 0, 0, 1, 1, 1, 1, 1, 1};
     const contour_terrain frame = {frame_values, 9, 3, 3}, nested = {nested_values, 25, 5, 5};
     const contour_terrain row = {row_values, 2, 2, 1};
-    const uint16_t points[] = {3, 4, 2, 3, 3, 2, 4, 3, 3, 4};
-    const uint32_t record[] = {0, 5, CONTOUR_HOLE, CONTOUR_NO_OWNER};
-    const struct ring_set hole = {points, 10, record, CONTOUR_RECORD_WORDS, 1};
     contour_tables tables = contour_easy_tables();
     struct ring_set set = contour(&tables, frame, 1, CONTOUR_AT_LEAST);
     print_fates("a frame", &set);
     set = contour(&tables, nested, 1, CONTOUR_AT_LEAST);
     print_fates("frames about one another", &set);
-    print_fates("a hole alone", &hole);
+    print_hole_alone();
     print_smoothing("a row of 0 and 4, at least 1, smoothed", &tables, row, 1, CONTOUR_AT_LEAST);
     print_smoothing("a row of 0 and 4, more than 0, smoothed", &tables, row, 0, CONTOUR_MORE_THAN);
     contour_easy_free(&tables);

@@ -1,15 +1,17 @@
 //! Prints the rings of a 3 by 3 terrain that is above everywhere but in the centre.
 
-use nigrulent::{area, contains, Place, Refusal, Terrain};
+use nigrulent::{contains, Place, Refusal, Tables, Terrain};
 
 fn main() -> Result<(), Refusal> {
     let values = [1.0, 1.0, 1.0, 1.0, 0.0, 1.0, 1.0, 1.0, 1.0];
-    let drawn = Terrain::new(&values, 3, 3)?.rings(1.0)?;
-    for (number, ring) in drawn.iter().enumerate() {
-        let points: String = ring.iter().map(|[x, y]| format!("({x},{y})")).collect();
-        println!("ring {number}: {points} area {}", area(ring)?);
+    let terrain = Terrain::new(&values, 3, 3)?;
+    let drawn = Tables::new().rings(&terrain, 1.0)?.to_rings();
+    for ring in &drawn {
+        let points = ring.points.iter().map(|[x, y]| format!("({x},{y})"));
+        let points: String = points.collect();
+        println!("ring {}: {points} area {}", ring.number, ring.area);
     }
-    let answer = match contains(&drawn[1], &drawn[0])? {
+    let answer = match contains(&drawn[1].points, &drawn[0].points)? {
         Place::Inside => 1,
         Place::Boundary => 0,
         Place::Outside => -1,

@@ -1,5 +1,6 @@
-//! What stands in the tables after a call: rings or lines, borrowed, each with its number, class and owner.
+//! What stands in the tables after a call: rings or lines, borrowed, each with its number, class, owner and area.
 
+use crate::record::{area_in, Words, CLASS, COUNT, FIRST, OWNER};
 use crate::{Point, Vertex};
 
 /// The owner word of a ring that has none.
@@ -34,8 +35,8 @@ impl Fate {
         }
     }
 
-    fn of([_, _, class, owner]: [u32; 4]) -> Self {
-        match (class, owner) {
+    fn of(record: &Words) -> Self {
+        match (record[CLASS], record[OWNER]) {
             (POLYGON, _) => Fate::Polygon,
             (HOLE, NO_OWNER) => Fate::Dropped,
             (HOLE, owner) => Fate::Hole(owner),
@@ -53,6 +54,9 @@ pub struct Record<'t, P = Point> {
     pub number: u32,
     /// Its class and owner.
     pub fate: Fate,
+    /// Its [`area`](crate::area()): eight times the enclosed area in squares of one step from sample to sample, signed.
+    /// A line has that of its ring, before it was smoothed and placed.
+    pub area: i64,
     /// Its points, the first repeated last.
     pub points: &'t [P],
 }
@@ -73,7 +77,7 @@ impl<P> Record<'_, P> {
 #[derive(Clone, Copy, Debug)]
 pub struct Drawn<'t, P = Point> {
     pub(crate) points: &'t [P],
-    pub(crate) directory: &'t [[u32; 4]],
+    pub(crate) directory: &'t [Words],
     /// The number of the first of them: 0, but where rows before this one have closed rings.
     pub(crate) first: u32,
 }
@@ -103,7 +107,23 @@ impl<'t, P> Drawn<'t, P> {
             .map(move |record| points_of(record, points))
     }
 
-    /// Each with its number, class and owner, by number; dropped holes too.
+    /// Each with its number, class, owner and area, by number; dropped holes too.
+    ///
+    /// ```
+    /// use nigrulent::{Placement, Tables, Terrain};
+    /// # fn main() -> Result<(), nigrulent::Refusal> {
+    /// let values = [1.0, 1.0, 1.0, 1.0, 0.0, 1.0, 1.0, 1.0, 1.0];
+    /// let terrain = Terrain::new(&values, 3, 3)?;
+    /// let mut tables = Tables::new();
+    /// let rings = tables.rings(&terrain, 1.0)?;
+    /// assert!(rings.records().map(|ring| ring.area).eq([-4, 68]));
+    /// // The lines have the areas of their rings, wherever they are placed.
+    /// let placement = Placement { x_step: 10.0, ..Placement::default() };
+    /// let lines = tables.lines(&terrain, 1.0, true, placement)?;
+    /// assert!(lines.records().map(|line| line.area).eq([-4, 68]));
+    /// # Ok(())
+    /// # }
+    /// ```
     pub fn records(
         &self,
     ) -> impl ExactSizeIterator<Item = Record<'t, P>> + DoubleEndedIterator + 't {
@@ -123,16 +143,16 @@ impl<'t, P> Drawn<'t, P> {
     }
 }
 
-fn record_of<'t, P>(number: u32, record: &'t [u32; 4], points: &'t [P]) -> Record<'t, P> {
+fn record_of<'t, P>(number: u32, record: &Words, points: &'t [P]) -> Record<'t, P> {
     Record {
         number,
-        fate: Fate::of(*record),
+        fate: Fate::of(record),
+        area: area_in(record),
         points: points_of(record, points),
     }
 }
 
-/// A record's first two words are its first point and its number of points.
-fn points_of<'t, P>(record: &[u32; 4], points: &'t [P]) -> &'t [P] {
-    let [first, count] = [record[0] as usize, record[1] as usize];
+fn points_of<'t, P>(record: &Words, points: &'t [P]) -> &'t [P] {
+    let [first, count] = [FIRST, COUNT].map(|word| record[word] as usize);
     &points[first..first + count]
 }

@@ -3,6 +3,9 @@
 /// The words of a state between two rows.
 pub const STATE_WORDS: usize = 141;
 
+/// The words of a directory record: first point, point count, class, owner, and the signed area, its low word first.
+pub const RECORD_WORDS: usize = 6;
+
 extern "C" {
     pub fn contour_first_report(
         values: *const f64,

@@ -1,12 +1,13 @@
 //! Polygons with their holes as GeoJSON text, out of the tables or out of vectors.
 
 use crate::drawn::{Rings, HOLE, NO_OWNER, POLYGON};
+use crate::record::{record, Words};
 use crate::ring_set::{read, word};
-use crate::{Point, Refusal, Regions};
+use crate::{area, Point, Refusal, Regions};
 
 /// Polygons, drawn or made by hand, as GeoJSON text of the form of
 /// [`contours_geojson`](crate::Terrain::contours_geojson). They are written in the order of the lists, whatever
-/// their numbers. The dropped holes are checked as the others are, and left out.
+/// the numbers and areas of their rings. The dropped holes are checked as the others are, and left out.
 ///
 /// # Errors
 ///
@@ -39,6 +40,7 @@ pub fn geojson(regions: &Regions) -> Result<String, Refusal> {
 /// };
 /// assert_eq!(check(&made(&[[0, 0], [4, 0], [0, 4], [0, 0]])), Ok(()));
 /// assert_eq!(check(&made(&[[0, 0], [4, 0], [0, 4]])), Err(Refusal::RingSet));
+/// assert_eq!(check(&made(&[])), Err(Refusal::RingSet));
 /// ```
 pub fn check(regions: &Regions) -> Result<(), Refusal> {
     Packed::of(regions)?.rings().check()
@@ -94,7 +96,7 @@ impl Rings<'_> {
 #[derive(Default)]
 struct Packed {
     points: Vec<Point>,
-    directory: Vec<[u32; 4]>,
+    directory: Vec<Words>,
 }
 
 impl Packed {
@@ -114,9 +116,12 @@ impl Packed {
         Ok(packed)
     }
 
+    /// The area is that of the points. A ring that has none is one that no ring set may have.
     fn push(&mut self, ring: &[Point], class: u32, owner: u32) -> Result<(), Refusal> {
         let (first, count) = (word(self.points.len())?, word(ring.len())?);
-        self.directory.push([first, count, class, owner]);
+        let area = area(ring).map_err(|_| Refusal::RingSet)?;
+        self.directory
+            .push(record(first, count, class, owner, area));
         self.points.extend_from_slice(ring);
         Ok(())
     }

@@ -2,23 +2,23 @@
 //! and smoothed and placed lines, drawn by the proved library libcontour_c.a.
 //!
 //! A [`Terrain`] is its values and sides. Its own functions hand out plain vectors. [`Tables`] keeps what the
-//! library is lent from call to call, and hands out rings as slices that it lends in turn, with the number,
-//! class and owner of each; [`Rings::fate`] says why a ring of a contour has them. [`Rows`] takes a terrain that
-//! comes row by row and is never held. A [`Level`] says which samples are above: those that are at least a
-//! threshold, for which a number does, or those that are more.
+//! library is lent from call to call, and hands out rings as slices that it lends in turn, with the number, area,
+//! class and owner of each; [`Rings::fate`] says why a ring of a contour has its class and owner. [`Rows`] takes a
+//! terrain that comes row by row and is never held. A [`Level`] says which samples are above: those that are at least
+//! a threshold, for which a number does, or those that are more.
 //!
 //! Coordinates are doubled whole numbers: sample (column, row) stands at (2·column + 1, 2·row + 1). Those of
 //! lines are floats.
 //!
 //! ```
-//! use nigrulent::{area, Terrain};
+//! use nigrulent::Terrain;
 //! # fn main() -> Result<(), nigrulent::Refusal> {
 //! let values = [1.0, 1.0, 1.0, 1.0, 0.0, 1.0, 1.0, 1.0, 1.0];
 //! let terrain = Terrain::new(&values, 3, 3)?;
 //! let contour = terrain.contours(1.0)?;
 //! let hole = &contour.polygons[0].interiors[0];
 //! assert_eq!(hole.points, [[3, 4], [2, 3], [3, 2], [4, 3], [3, 4]]);
-//! assert_eq!(area(&hole.points)?, -4);
+//! assert_eq!(hole.area, -4);
 //! # Ok(())
 //! # }
 //! ```
@@ -31,6 +31,7 @@ mod drawn;
 mod ffi;
 mod geojson;
 mod level;
+mod record;
 mod refusal;
 mod regions;
 mod ring_set;
@@ -72,7 +73,7 @@ pub enum Place {
 }
 
 /// The area of a ring: eight times the enclosed area in squares of one step from sample to sample, above 0
-/// for a polygon of a contour and below for a hole.
+/// for a polygon of a contour and below for a hole. A [`Record`] and a [`Ring`] that was drawn have it already.
 ///
 /// # Errors
 ///

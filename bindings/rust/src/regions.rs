@@ -1,14 +1,17 @@
 //! Contours and bands as polygons with their holes, in vectors.
 
-use crate::drawn::{Fate, Rings};
+use crate::drawn::{Fate, Record, Rings};
 use crate::Point;
 
-/// A ring with its number, by which owners are named: of a contour its place in the order in which rings close,
-/// of a band its place by size.
+/// A ring with its area and its number, by which owners are named: of a contour its place in the order in which rings
+/// close, of a band its place by size.
 #[derive(Clone, Debug, Default, PartialEq, Eq)]
 pub struct Ring {
     /// Its number.
     pub number: u32,
+    /// Its [`area`](crate::area()) as it was drawn: above 0 for a polygon of a contour and below for a hole. No call
+    /// looks at that of a ring which is made by hand.
+    pub area: i64,
     /// A closed list of points, the first repeated last.
     pub points: Vec<Point>,
 }
@@ -62,7 +65,7 @@ impl Rings<'_> {
         for record in self.records().filter(|r| r.fate == Fate::Polygon) {
             places[record.number as usize] = regions.polygons.len();
             regions.polygons.push(Polygon {
-                exterior: ring(record.number, record.points),
+                exterior: ring(record),
                 interiors: Vec::new(),
             });
         }
@@ -73,32 +76,32 @@ impl Rings<'_> {
                 Fate::Dropped => &mut regions.dropped,
                 Fate::Polygon | Fate::Line => continue,
             };
-            holes.push(ring(record.number, record.points));
+            holes.push(ring(record));
         }
         regions
     }
 
-    /// Every ring with its number, whatever its class, in vectors.
+    /// Every ring with its number and area, whatever its class, in vectors.
     ///
     /// ```
     /// use nigrulent::{Tables, Terrain};
     /// # fn main() -> Result<(), nigrulent::Refusal> {
     /// let terrain = Terrain::new(&[1.0, 0.0, 1.0], 3, 1)?;
     /// let rings = Tables::new().rings(&terrain, 1.0)?.to_rings();
-    /// assert_eq!((rings[1].number, &rings[1].points), (1, &terrain.rings(1.0)?[1]));
+    /// assert_eq!((rings[1].number, rings[1].area), (1, 4));
+    /// assert_eq!(rings[1].points, terrain.rings(1.0)?[1]);
     /// # Ok(())
     /// # }
     /// ```
     pub fn to_rings(&self) -> Vec<Ring> {
-        self.records()
-            .map(|record| ring(record.number, record.points))
-            .collect()
+        self.records().map(ring).collect()
     }
 }
 
-fn ring(number: u32, points: &[Point]) -> Ring {
+fn ring(record: Record) -> Ring {
     Ring {
-        number,
-        points: points.to_vec(),
+        number: record.number,
+        area: record.area,
+        points: record.points.to_vec(),
     }
 }

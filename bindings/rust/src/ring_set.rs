@@ -17,7 +17,7 @@ macro_rules! read {
                 points.as_ptr().cast(),
                 2 * points.len(),
                 directory.as_ptr().cast(),
-                4 * directory.len(),
+                $crate::ffi::RECORD_WORDS * directory.len(),
                 rings,
                 $($behind),*
             )

@@ -1,7 +1,8 @@
 //! A terrain that comes row by row: its rings, handed out as they close.
 
 use crate::drawn::Rings;
-use crate::ffi::STATE_WORDS;
+use crate::ffi::{RECORD_WORDS, STATE_WORDS};
+use crate::record::Words;
 use crate::{ffi, Level, Point, Refusal};
 
 /// A table that grows has this length at least.
@@ -15,8 +16,8 @@ const LEAST: usize = 64;
 /// terrain asks for it, by what is unfinished and what closes in one row. What is handed out is borrowed from them
 /// until the next row; [`to_rings`](crate::Rings::to_rings) keeps it. A clone goes on by itself.
 ///
-/// A ring is bare: whether a hole's polygon is there shows only later, so nothing is said of owners. The
-/// [`area`](crate::area) tells a hole, for which it is below 0.
+/// A ring is bare: whether a hole's polygon is there shows only later, so nothing is said of owners. Its
+/// [`area`](crate::Record::area) tells a hole, for which it is below 0.
 ///
 /// ```
 /// use nigrulent::{Refusal, Rows};
@@ -26,7 +27,7 @@ const LEAST: usize = 64;
 /// assert!(rows.push(&[1.0, 0.0, 1.0])?.is_empty());
 /// // The hole's ring closes when the row below it is there.
 /// let closed = rows.push(&[1.0, 1.0, 1.0])?.to_rings();
-/// assert_eq!((closed.len(), closed[0].number), (1, 0));
+/// assert_eq!((closed.len(), closed[0].number, closed[0].area), (1, 0, -4));
 /// assert_eq!(closed[0].points, [[3, 4], [2, 3], [3, 2], [4, 3], [3, 4]]);
 /// let last = rows.finish()?.to_rings();
 /// assert_eq!((last.len(), last[0].number, last[0].points.len()), (1, 1, 13));
@@ -52,7 +53,7 @@ pub struct Rows {
     open: Vec<u32>,
     links: Vec<u32>,
     points: Vec<Point>,
-    directory: Vec<[u32; 4]>,
+    directory: Vec<Words>,
     dx: usize,
     dy: usize,
     /// How many rings were handed out.
@@ -158,8 +159,10 @@ impl Rows {
         let (open, open_words) = (self.open.as_mut_ptr(), self.open.len());
         let (links, links_words) = (self.links.as_mut_ptr(), self.links.len());
         let (points, points_words) = (self.points.as_mut_ptr().cast(), 2 * self.points.len());
-        let (directory, directory_words) =
-            (self.directory.as_mut_ptr().cast(), 4 * self.directory.len());
+        let (directory, directory_words) = (
+            self.directory.as_mut_ptr().cast(),
+            RECORD_WORDS * self.directory.len(),
+        );
         // Safety: the library reads the values and reads and writes the state, the tables and the number lent,
         // within the lengths passed beside them.
         Refusal::of(unsafe {

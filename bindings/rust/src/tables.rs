@@ -1,6 +1,8 @@
 //! The tables that the library is lent: sized by its first report, and kept from call to call.
 
 use crate::drawn::{Lines, Rings};
+use crate::ffi::RECORD_WORDS;
+use crate::record::Words;
 use crate::{ffi, Level, Placement, Point, Refusal, Rule, Terrain, Vertex};
 
 /// The tables that the library is lent. They grow to what a call needs and stay for the next one, so that who
@@ -32,7 +34,7 @@ pub struct Tables {
     links: Vec<u32>,
     points: Vec<Point>,
     vertices: Vec<Vertex>,
-    directory: Vec<[u32; 4]>,
+    directory: Vec<Words>,
 }
 
 /// What is drawn, and at which thresholds.
@@ -153,7 +155,7 @@ impl Tables {
                 self.vertices.as_mut_ptr().cast(),
                 2 * self.vertices.len(),
                 self.directory.as_mut_ptr().cast(),
-                4 * self.directory.len(),
+                RECORD_WORDS * self.directory.len(),
                 &mut rings,
             )
         })?;
@@ -179,7 +181,7 @@ impl Tables {
             self.points.as_mut_ptr().cast(),
             2 * self.points.len(),
             self.directory.as_mut_ptr().cast(),
-            4 * self.directory.len(),
+            RECORD_WORDS * self.directory.len(),
             &mut rings,
         )?;
         Ok(Rings {

@@ -195,7 +195,8 @@ impl Rings<'_> {
 mod tests {
     use super::*;
     use crate::drawn::HOLE;
-    use crate::Point;
+    use crate::record::record;
+    use crate::{area, Point};
 
     /// A square that runs as a polygon does, the same the other way round, its middle line there and back, and a
     /// hole beside it.
@@ -207,8 +208,12 @@ mod tests {
     /// A set of these rings of five points, whose records all say that they are dropped.
     fn with_set<T>(rings: &[[Point; 5]], call: impl FnOnce(Rings) -> T) -> T {
         let points: Vec<_> = rings.iter().flatten().copied().collect();
-        let directory: Vec<_> = (0..rings.len() as u32)
-            .map(|k| [5 * k, 5, HOLE, NO_OWNER])
+        let directory: Vec<_> = (0..)
+            .zip(rings)
+            .map(|(k, ring)| {
+                let area = area(ring).expect("a ring of few points and small coordinates");
+                record(5 * k, 5, HOLE, NO_OWNER, area)
+            })
             .collect();
         call(Rings {
             points: &points,

@@ -3,13 +3,17 @@
 mod terrains;
 
 use nigrulent::{Fate, Level, Point, Refusal, Ring, Rows, Terrain, SIDE_LIMIT};
-use terrains::{for_terrains, row_by_row, Random};
+use terrains::{for_terrains, row_by_row, summed_area, Random};
 
-/// The rings of the terrain as a whole, by number.
+/// The rings of the terrain as a whole, by number, each with the area of its points.
 fn whole(terrain: &Terrain, level: Level) -> Result<Vec<Ring>, Refusal> {
     let numbered = (0..).zip(terrain.rings(level)?);
     Ok(numbered
-        .map(|(number, points)| Ring { number, points })
+        .map(|(number, points)| Ring {
+            number,
+            area: summed_area(&points),
+            points,
+        })
         .collect())
 }
 

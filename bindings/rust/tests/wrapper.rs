@@ -1,10 +1,13 @@
-//! Numbers, classes and owners by the rules, from areas and containment of the plain rings; and tables that are
-//! reused against tables of one call.
+//! Numbers, classes and owners by the rules, from areas and containment of the plain rings; areas by document 01's sum;
+//! and tables that are reused against tables of one call.
 
 mod terrains;
 
-use nigrulent::{area, contains, Fate, Level, Place, Placement, Point, Refusal, Regions, Tables};
-use terrains::for_terrains;
+use nigrulent::{
+    area, check, contains, geojson, Fate, Level, Place, Placement, Point, Polygon, Record, Refusal,
+    Regions, Ring, Tables,
+};
+use terrains::{for_terrains, summed_area};
 
 fn takes(outer: &[Point], tested: &[Point]) -> Result<bool, Refusal> {
     Ok(contains(outer, tested)? != Place::Outside)
@@ -91,6 +94,81 @@ fn bands_are_numbered_by_size_and_owned_by_the_rule() {
         assert_eq!(listed(&band), expected);
         Ok(())
     });
+}
+
+/// Whether a record has the area of its points.
+fn has_its_area(record: Record) -> bool {
+    record.area == summed_area(record.points)
+}
+
+#[test]
+fn rings_have_the_areas_of_their_points() {
+    let mut tables = Tables::new();
+    for_terrains(|terrain, level| {
+        let Level { threshold, rule } = level;
+        let pair = [threshold, threshold + 1.0];
+        assert!(tables.rings(terrain, level)?.records().all(has_its_area));
+        for drawn in [
+            tables.contours(terrain, level)?.to_regions(),
+            tables.isobands(terrain, &pair, rule, 0)?.to_regions(),
+        ] {
+            let rings = drawn.polygons.iter().flat_map(Polygon::rings);
+            for ring in rings.chain(&drawn.dropped) {
+                assert_eq!(ring.area, summed_area(&ring.points));
+                assert_eq!(area(&ring.points), Ok(ring.area));
+            }
+        }
+        Ok(())
+    });
+}
+
+#[test]
+fn lines_have_the_areas_of_their_rings() {
+    let mut tables = Tables::new();
+    let placements = [
+        Placement::default(),
+        Placement {
+            x_origin: -7.0,
+            y_step: -0.5,
+            ..Placement::default()
+        },
+    ];
+    for_terrains(|terrain, level| {
+        let rings = terrain.rings(level)?;
+        let areas: Vec<_> = rings.iter().map(|ring| summed_area(ring)).collect();
+        for (smooth, placement) in [false, true].into_iter().zip(placements) {
+            let lines = tables.lines(terrain, level, smooth, placement)?;
+            assert!(lines.records().map(|line| line.area).eq(areas.clone()));
+        }
+        Ok(())
+    });
+}
+
+/// The area in a ring of the caller's own is not looked at: the points alone are.
+#[test]
+fn polygons_made_by_hand_need_no_area() {
+    for_terrains(|terrain, level| {
+        let mut contour = terrain.contours(level)?;
+        let text = terrain.contours_geojson(level)?;
+        let unmeasured = |ring: &mut Ring| ring.area = 0;
+        for polygon in &mut contour.polygons {
+            unmeasured(&mut polygon.exterior);
+            polygon.interiors.iter_mut().for_each(unmeasured);
+        }
+        assert_eq!((check(&contour), geojson(&contour)), (Ok(()), Ok(text)));
+        Ok(())
+    });
+    let with = |points: Vec<Point>| Regions {
+        dropped: vec![Ring {
+            points,
+            ..Ring::default()
+        }],
+        ..Regions::default()
+    };
+    let above = vec![[8193, 0], [0, 0], [0, 4], [8193, 0]];
+    for points in [vec![], vec![[2, 2]], above] {
+        assert_eq!(check(&with(points)), Err(Refusal::RingSet));
+    }
 }
 
 #[test]

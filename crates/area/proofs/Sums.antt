@@ -8,11 +8,11 @@ use lib.IntN.{_+ℤ_, +ℤ-assoc, +ℤ-idl, +ℤ-idr}
 use lib.ListN.{length, getD, drop, drop-of-length-le}
 use Rattle.scope.specs.Area.{points, area, twist, twists}
 use Rattle.area.proofs.Differences.{diff, add-diff}
-use Rattle.area.proofs.Words.{Sound, ring, pointAt, lastPoint, next-point}
+use Rattle.area.proofs.Words.{ring, pointAt, lastPoint, next-point}
 
 -- the sums before the point at i, the point x, y standing before it: with what is left they make the area, and a point adds less than 2 ^ 32 to each
 pub record Sums (ws : List ℕ) (x y gained lost i : ℕ) : Type 0 where
-  pub sound : Sound ws
+  pub even : length ws % 2 ≡ 0
   pub within : i ≤ length ws
   pub paired : i % 2 ≡ 0
   pub gained-small : gained ≤ 2 ^ 31 * i
@@ -20,12 +20,12 @@ pub record Sums (ws : List ℕ) (x y gained lost i : ℕ) : Type 0 where
   pub total : area (points ws) ≡ diff gained lost +ℤ twists (record { x = x; y = y }) (points (drop i ws))
 
 -- nothing is passed, and the last point stands before the first
-pub sums-begin : (ws : List ℕ) → Sound ws → 0 < length ws → Sums ws (lastPoint ws .x) (lastPoint ws .y) 0 0 0
+pub sums-begin : (ws : List ℕ) → length ws % 2 ≡ 0 → 0 < length ws → Sums ws (lastPoint ws .x) (lastPoint ws .y) 0 0 0
 unfolding area lastPoint
-sums-begin ws s h =
-    let r = ring ws s h in
+sums-begin ws e h =
+    let r = ring ws e h in
     record {
-      sound = s;
+      even = e;
       within = omega arith;
       paired = refl;
       gained-small = omega arith;
@@ -40,7 +40,7 @@ pub sums-next : {ws : List ℕ} {x y gained lost i : ℕ} → Sums ws x y gained
 unfolding twists twist pointAt
 sums-next {ws} {x} {y} {gained} {lost} {i} s h {p} {q} hp hq =
     record {
-      sound = s .sound;
+      even = s .even;
       within = omega arith;
       paired = omega arith;
       gained-small = omega arith;

@@ -72,7 +72,7 @@ pub walked-begin : (outer : List ℕ) (p : Point) → Sound outer → 0 < length
     Walked outer p (lastPoint outer .x) (lastPoint outer .y) false 0
 unfolding pointAgainst lastPoint
 walked-begin outer p s h =
-    let r = ring outer s h in
+    let r = ring outer (s .paired) h in
     record { sound = s; within = omega arith; paired = refl; left = rw (r .are, r .last) refl }
 
 module _ {outer : List ℕ} {p : Point} {ax ay : ℕ} {inside : Bool} {k : ℕ} (s : Walked outer p ax ay inside k) (h : k < length outer) where

@@ -60,12 +60,12 @@ pub record Ring (ws : List ℕ) : Type 0 where
   pub are : points ws ≡ first ∷ rest
   pub last : lastOf first rest ≡ lastPoint ws
 
--- sound words of one point or more are a ring
-pub ring : (ws : List ℕ) → Sound ws → 0 < length ws → Ring ws
+-- pairs of words, one or more, are a ring
+pub ring : (ws : List ℕ) → length ws % 2 ≡ 0 → 0 < length ws → Ring ws
 unfolding points lastPoint
-ring [] s h = absurd (omega (arith, h))
-ring (x ∷ []) s h = absurd (omega (arith, s .paired))
-ring (x ∷ y ∷ ws) s h =
+ring [] paired h = absurd (omega (arith, h))
+ring (x ∷ []) paired h = absurd (omega (arith, paired))
+ring (x ∷ y ∷ ws) paired h =
     let p : suc (suc (length ws)) - 2 ≡ length ws = omega arith in
     let q : suc (suc (length ws)) - 1 ≡ suc (length ws) = omega arith in
-    record { first = record { x = x; y = y }; rest = points ws; are = refl; last = rw (p, q) (last-of x y ws (omega (arith, s .paired))) }
+    record { first = record { x = x; y = y }; rest = points ws; are = refl; last = rw (p, q) (last-of x y ws (omega (arith, paired))) }

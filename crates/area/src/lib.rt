@@ -62,7 +62,7 @@ fn no_ring(words: &[u16]) -> bool
 }
 
 // The whole product of two coordinates.
-fn product(a: u16, b: u16) -> u64
+pub fn product(a: u16, b: u16) -> u64
     ensures { λ r. ⌜ (r ≡ a * b) × (r < 2 ^ 32) ⌝ }
 {
     (a as u64) * (b as u64)

@@ -1,7 +1,7 @@
 -- Packing a band: each way out of it is what the verdict on the outputs says. Assumes nothing.
 use mathlib.Core.Path.{_≡_, refl, sym, _∙_, ap, ap₂}
 use mathlib.Core.List.{List, _++_, append-nil}
-use Prim.Native.Nat.{ℕ, suc, _+_, _-_, _≤_, _<_}
+use Prim.Native.Nat.{ℕ, suc, _+_, _-_, _*_, _≤_, _<_}
 use native.Mathlib.Omega.{arith}
 use lib.ListN.{length, take, drop, length-drop, drop-of-length-le}
 use lib.Seq.{sets, take-all}
@@ -10,7 +10,7 @@ use borrow.Author.Tests.{lt-ltb, le-ltb}
 use Rattle.error.specs.declared.Refusal.{Refusal}
 use Rattle.error.specs.declared.Refusal.the-variants.{PointsShort, DirectoryShort}
 use Rattle.scope.specs.Terrain.{Sheet}
-use Rattle.scope.specs.Room.{pointWords, directoryWords, bandPointWords, bandDirectoryWords}
+use Rattle.scope.specs.Room.{pointWords, bandPointWords, bandDirectoryWords}
 use Rattle.machine.specs.Machine.{Tables, runAfter, runOver}
 use Rattle.machine.specs.Walk.{walkPoints, walkRecords}
 use Rattle.lines.specs.Values.{tablesOf}
@@ -46,7 +46,7 @@ module _ (L : Sheet) (dx dy : ℕ) (d : BandDrawing) (lines links points directo
 
   abbrev packed-records : List ℕ
   packed-records =
-      sets (storedFrom (directoryWords (d .«lower_rings»)) (walkRecords links 0 0 (d .head) (d .«upper_segments»)) directory) 0
+      sets (storedFrom (4 * d .«lower_rings») (walkRecords links 0 0 (d .head) (d .«upper_segments»)) directory) 0
       (walkRecords (again .links) 0 0 (again .progress .head) (d .«lower_segments»))
 
   by-refusal : (why : Refusal) → room ≡ refused why → BandPacked L dx dy d lines links points directory (built-is.Refused why) lines links points directory
@@ -73,7 +73,7 @@ module _ (L : Sheet) (dx dy : ℕ) (d : BandDrawing) (lines links points directo
 
   -- the numbers by which the code goes on, and the stores it makes
   pub packs-done : point-need ≤ length points → record-need ≤ length directory → (rings words records : ℕ) → rings ≡ d .«lower_rings» + d .«upper_rings»
-      → words ≡ pointWords (d .«lower_segments») (d .«lower_rings») → records ≡ directoryWords (d .«lower_rings»)
+      → words ≡ pointWords (d .«lower_segments») (d .«lower_rings») → records ≡ 4 * d .«lower_rings»
       → (p : Progress) (lines′ links′ : List ℕ) → tablesOf lines′ links′ p ≡ runAfter L dx (runOver lines links) dy (suc dx) .tables
       → (points₁ directory₁ points′ directory′ : List ℕ) → points₁ ≡ storedFrom words (walkPoints dx links (d .head) (d .head) (d .«upper_segments»)) points
       → directory₁ ≡ storedFrom records (walkRecords links 0 0 (d .head) (d .«upper_segments»)) directory

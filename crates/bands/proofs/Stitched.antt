@@ -12,7 +12,7 @@ use Rattle.scope.specs.Limits.{sideLimit}
 use Rattle.scope.specs.Terrain.{Sheet, aboveAt, terrain}
 use Rattle.scope.specs.Drawing.{segmentsOf, segmentCount, ringCount, ringsOf, peak}
 use Rattle.scope.specs.Room.{openWords, linkWords}
-use Rattle.scope.specs.Tables.{packedPoints, bareRecords}
+use Rattle.scope.specs.Tables.{packedPoints, shortOf, bareBy}
 use Rattle.machine.specs.Machine.{Tables}
 use Rattle.machine.specs.Walk.{walkPoints, walkRecords}
 use Rattle.machine.proofs.Built.{rings-found, points-found, records-found, lines-kept, links-kept}
@@ -38,7 +38,7 @@ pub record StitchedOver (A : Sheet) (dx dy : ℕ) (lines links : List ℕ) (t : 
   pub links-past : (m : ℕ) → linkWords (segmentCount A dx dy) ≤ m → drop m (t .links) ≡ drop m links
   pub rings-are : t .progress .rings ≡ ringCount A dx dy
   pub points-are : walkPoints dx (t .links) (t .progress .head) (t .progress .head) (segmentCount A dx dy) ≡ packedPoints (ringsOf A dx dy)
-  pub records-are : walkRecords (t .links) 0 0 (t .progress .head) (segmentCount A dx dy) ≡ bareRecords 0 0 (ringsOf A dx dy)
+  pub records-are : walkRecords (t .links) 0 0 (t .progress .head) (segmentCount A dx dy) ≡ bareBy shortOf 0 0 (ringsOf A dx dy)
 
 module _ (values : List Float) (level : Level) (dx dy : ℕ) (sized : Sized (length values) dx dy) where
   abbrev A : Sheet

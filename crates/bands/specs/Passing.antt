@@ -2,14 +2,14 @@
 -- first, for its rings' number; then the upper, whose points are packed behind those of the lower; then the lower again, to be packed. Assumes nothing.
 use mathlib.Core.Path.{_≡_}
 use mathlib.Core.List.{List, _++_}
-use Prim.Native.Nat.{ℕ, suc, _+_, max}
+use Prim.Native.Nat.{ℕ, suc, _+_, _*_, max}
 use lib.Ieee.{Float}
 use lib.ListN.{length, take, drop}
 use lib.Seq.{sets}
 use Rattle.scope.specs.declared.Level.{Level}
 use Rattle.scope.specs.Terrain.{Sheet, aboveAt, terrain}
 use Rattle.scope.specs.Drawing.{segmentCount, ringCount, peak}
-use Rattle.scope.specs.Room.{pointWords, directoryWords}
+use Rattle.scope.specs.Room.{pointWords}
 use Rattle.machine.specs.Machine.{Tables}
 use Rattle.machine.specs.Walk.{walkPoints, walkRecords}
 use Rattle.scan.specs.Rows.{Marked}
@@ -66,5 +66,5 @@ pub record BandPacked (L : Sheet) (dx dy : ℕ) (d : BandDrawing) (lines links p
       (sets (storedFrom (pointWords (d .«lower_segments») (d .«lower_rings»)) (walkPoints dx links (d .head) (d .head) (d .«upper_segments»)) points) 0
       (walkPoints dx (stitchedTables L dx dy lines links .links) (stitchedTables L dx dy lines links .progress .head) (stitchedTables L dx dy lines links .progress .head) (d .«lower_segments»)))
   pub directory-is : directory′ ≡ passTable (bandRoom (d .«lower_segments») (d .«lower_rings») (d .«upper_segments») (d .«upper_rings») (length points) (length directory)) directory
-      (sets (storedFrom (directoryWords (d .«lower_rings»)) (walkRecords links 0 0 (d .head) (d .«upper_segments»)) directory) 0
+      (sets (storedFrom (4 * d .«lower_rings») (walkRecords links 0 0 (d .head) (d .«upper_segments»)) directory) 0
       (walkRecords (stitchedTables L dx dy lines links .links) 0 0 (stitchedTables L dx dy lines links .progress .head) (d .«lower_segments»)))

@@ -8,6 +8,7 @@ use isoringbuilder::link_words;
 use isoringbuilder::open_words;
 use isoringbuilder::point_words;
 use limits::RECORD_STRIDE;
+use limits::SHORT_STRIDE;
 use packing::clear;
 use packing::write_rings;
 use scan::Counts;
@@ -257,7 +258,7 @@ pub fn band_point_words(drawing: BandDrawing) -> usize
         + point_words(drawing.upper_segments, drawing.upper_rings)
 }
 
-// The points and the bare records of the rings in the links, stored from a word of each output on.
+// The points and the bare records of the rings in the links, without areas, stored from a word of each output on.
 fn write_behind(
     links: &[u32],
     dx: u32,
@@ -282,8 +283,8 @@ fn write_behind(
     );
 }
 
-// The points and the bare records of both sets, where both outputs have room; all is spared where one has not. The upper set, which was stitched last, goes
-// behind the room of the lower; then the lower set is stitched again and goes in front.
+// The points and the bare records of both sets, without areas, where both outputs have room for all; all is spared where one has not. The upper set, which was
+// stitched last, goes behind the room of the lower; then the lower set is stitched again and goes in front.
 pub fn band_pack(
     drawing: BandDrawing,
     values: &[f64],
@@ -314,7 +315,7 @@ pub fn band_pack(
     if directory.len() < RECORD_STRIDE * (rings as usize) {
         return Built::Refused(Refusal::DirectoryShort);
     }
-    let records = RECORD_STRIDE * (lower_rings as usize);
+    let records = SHORT_STRIDE * (lower_rings as usize);
     write_behind(
         links,
         dx as u32,

@@ -16,17 +16,18 @@ use Rattle.scope.specs.Terrain.{Sheet, aboveAt, terrain}
 use Rattle.scope.specs.Stitching.{Line}
 use Rattle.scope.specs.Drawing.{segmentCount, ringCount, ringsOf, peak}
 use Rattle.scope.specs.Room.{openWords, linkWords, pointWords, directoryWords, bandOpenWords, bandLinkWords, bandPointWords, bandDirectoryWords}
-use Rattle.scope.specs.Tables.{written, packedPoints, bareRecords, bandPoints, bandRecords}
+use Rattle.scope.specs.Tables.{written, packedPoints, shortOf, recordOf, bareBy, bandPoints, bandRecords}
 use Rattle.scope.specs.Band.{bandOrder}
 use Rattle.laws.proofs.Total.{total, total-append}
 use Rattle.laws.proofs.Conservation.{Each}
 use Rattle.machine.specs.Machine.{Tables}
 use Rattle.machine.specs.Walk.{walkPoints, walkRecords}
-use Rattle.machine.proofs.Built.{packed-points-fill-their-room, records-fill-their-room}
+use Rattle.machine.proofs.Built.{packed-points-fill-their-room, short-records-length}
 use Rattle.packing.specs.Cleared.{cleared}
 use Rattle.packing.proofs.Laws.{stores-from-the-start, cleared-is-zeroed}
 use Rattle.extents.specs.Records.{recordCount}
-use Rattle.regions.specs.Regions.{countedRings, sortedRecords, Workable}
+use Rattle.regions.specs.Regions.{countedRings, sortedBy, Workable}
+use Rattle.spreading.proofs.Laws.{written-over}
 use Rattle.grid.specs.Grid.{Sized}
 use Rattle.grid.specs.declared.GridFit.{GridFit}
 use Rattle.grid.specs.declared.GridFit.the-variants as fit-is
@@ -44,11 +45,11 @@ use Rattle.bands.specs.declared.BandPass.the-variants as pass-is
 use Rattle.bands.proofs.Stitched.{StitchedOver, stitched-over, few-segments}
 use Rattle.bands.proofs.Passes.{open-needs, link-needs}
 use Rattle.bands.proofs.Reports.{both-fit, BandDone, band-refused, two, lines-long, links-long, lines-past, links-past, open-words-are, link-words-are}
-use Rattle.contourbuilder.specs.Owning.{recordsOf, Ownable, ownedDirectory, OwnersFound}
+use Rattle.contourbuilder.specs.Owning.{recordsBy, Ownable, ownedDirectory, OwnersFound}
 use Rattle.contourbuilder.proofs.Lengths.{packed-both, band-length}
 use Rattle.contourbuilder.proofs.Laid.{Drawn, Laid, rings-are, workable}
 use Rattle.contourbuilder.proofs.Sizes.{bare-count, fours, rings-drawn, points-are}
-use Rattle.contourbuilder.proofs.Contoured.{written-over, written-front, cleared-same}
+use Rattle.contourbuilder.proofs.Contoured.{written-front, cleared-same}
 
 -- ---- two runs of words
 
@@ -74,29 +75,29 @@ each-both P [] upper e f = f
 each-both P (ring ∷ lower) upper e f = (e .0, each-both P lower upper (e .1) f)
 
 -- the counts in two runs of bare records
-both-counts : (lower upper : List Line) (past : List ℕ) → length (bareRecords 0 0 lower) ≡ 4 * length lower → (r : ℕ) → r < length (lower ++ upper)
-    → getD ((bareRecords 0 0 lower ++ bareRecords 0 0 upper) ++ past) (4 * r + 1) 0 ≡ length (getD (lower ++ upper) r [])
+both-counts : (lower upper : List Line) (past : List ℕ) → length (bareBy shortOf 0 0 lower) ≡ 4 * length lower → (r : ℕ) → r < length (lower ++ upper)
+    → getD ((bareBy shortOf 0 0 lower ++ bareBy shortOf 0 0 upper) ++ past) (4 * r + 1) 0 ≡ length (getD (lower ++ upper) r [])
 both-counts lower upper past long r h = by (decLt r (length lower))
   where
-    order : (bareRecords 0 0 lower ++ bareRecords 0 0 upper) ++ past ≡ bareRecords 0 0 lower ++ (bareRecords 0 0 upper ++ past)
-    order = append-assoc (bareRecords 0 0 lower) (bareRecords 0 0 upper) past
+    order : (bareBy shortOf 0 0 lower ++ bareBy shortOf 0 0 upper) ++ past ≡ bareBy shortOf 0 0 lower ++ (bareBy shortOf 0 0 upper ++ past)
+    order = append-assoc (bareBy shortOf 0 0 lower) (bareBy shortOf 0 0 upper) past
 
-    by : Dec (r < length lower) → getD ((bareRecords 0 0 lower ++ bareRecords 0 0 upper) ++ past) (4 * r + 1) 0 ≡ length (getD (lower ++ upper) r [])
+    by : Dec (r < length lower) → getD ((bareBy shortOf 0 0 lower ++ bareBy shortOf 0 0 upper) ++ past) (4 * r + 1) 0 ≡ length (getD (lower ++ upper) r [])
     by (yes below) =
-        ap (λ (l : List ℕ). getD l (4 * r + 1) 0) order ∙ bare-count 0 0 lower (bareRecords 0 0 upper ++ past) r below ∙ ap length (sym (List·getD-append lower upper [] r below))
+        ap (λ (l : List ℕ). getD l (4 * r + 1) 0) order ∙ bare-count 0 0 lower (bareBy shortOf 0 0 upper ++ past) r below ∙ ap length (sym (List·getD-append lower upper [] r below))
     by (no over) =
         let s : ℕ = r - length lower in
         let split : r ≡ length lower + s = omega arith in
-        let at : 4 * r + 1 ≡ length (bareRecords 0 0 lower) + (4 * s + 1) = omega arith in
+        let at : 4 * r + 1 ≡ length (bareBy shortOf 0 0 lower) + (4 * s + 1) = omega arith in
         ap (λ (l : List ℕ). getD l (4 * r + 1) 0) order
-        ∙ ap (λ (i : ℕ). getD (bareRecords 0 0 lower ++ (bareRecords 0 0 upper ++ past)) i 0) at
-        ∙ getD-append-add (bareRecords 0 0 lower) (bareRecords 0 0 upper ++ past) (4 * s + 1) 0
+        ∙ ap (λ (i : ℕ). getD (bareBy shortOf 0 0 lower ++ (bareBy shortOf 0 0 upper ++ past)) i 0) at
+        ∙ getD-append-add (bareBy shortOf 0 0 lower) (bareBy shortOf 0 0 upper ++ past) (4 * s + 1) 0
         ∙ bare-count 0 0 upper past s (omega (arith, length-append lower upper))
         ∙ ap length (sym (ap (λ (i : ℕ). getD (lower ++ upper) i []) split ∙ getD-append-add lower upper s []))
 
 -- a band's records are those of its rings, one set after the other, in their order
-same-records : (lower upper : List Line) → sortedRecords (lower ++ upper) ≡ bandRecords lower upper
-unfolding sortedRecords bandRecords bandOrder
+same-records : (lower upper : List Line) → sortedBy recordOf (lower ++ upper) ≡ bandRecords lower upper
+unfolding sortedBy bandRecords bandOrder
 same-records lower upper = refl
 
 -- ---- from the passes to the contract
@@ -172,7 +173,7 @@ module _ (values : List Float) (lower upper : Level) (dx dy : ℕ) (lines links 
         ap₂ (λ (l : List ℕ) (d : BandDrawing). walkPoints dx l (d .head) (d .head) (d .«upper_segments»)) (done .links-are) (done .is-drawing)
         ∙ two values lower upper dx dy lines links sized done .points-are
 
-    upper-records : walkRecords links₁ 0 0 (drawing .head) (drawing .«upper_segments») ≡ bareRecords 0 0 (ringsOf U dx dy)
+    upper-records : walkRecords links₁ 0 0 (drawing .head) (drawing .«upper_segments») ≡ bareBy shortOf 0 0 (ringsOf U dx dy)
     unfolding bandDrawing
     upper-records =
         ap₂ (λ (l : List ℕ) (d : BandDrawing). walkRecords l 0 0 (d .head) (d .«upper_segments»)) (done .links-are) (done .is-drawing)
@@ -183,7 +184,7 @@ module _ (values : List Float) (lower upper : Level) (dx dy : ℕ) (lines links 
     lower-points =
         ap (λ (d : BandDrawing). walkPoints dx (again .links) (again .progress .head) (again .progress .head) (d .«lower_segments»)) (done .is-drawing) ∙ three .points-are
 
-    lower-records : walkRecords (again .links) 0 0 (again .progress .head) (drawing .«lower_segments») ≡ bareRecords 0 0 (ringsOf L dx dy)
+    lower-records : walkRecords (again .links) 0 0 (again .progress .head) (drawing .«lower_segments») ≡ bareBy shortOf 0 0 (ringsOf L dx dy)
     unfolding bandDrawing
     lower-records =
         ap (λ (d : BandDrawing). walkRecords (again .links) 0 0 (again .progress .head) (d .«lower_segments»)) (done .is-drawing) ∙ three .records-are
@@ -195,13 +196,11 @@ module _ (values : List Float) (lower upper : Level) (dx dy : ℕ) (lines links 
     upper-words : length (packedPoints (ringsOf U dx dy)) ≡ pointWords (segmentCount U dx dy) (ringCount U dx dy)
     upper-words = packed-points-fill-their-room U (outside values upper dx dy sized)
 
-    lower-length : length (bareRecords 0 0 (ringsOf L dx dy)) ≡ 4 * ringCount L dx dy
-    unfolding directoryWords recordStride
-    lower-length = records-fill-their-room L (outside values lower dx dy sized)
+    lower-length : length (bareBy shortOf 0 0 (ringsOf L dx dy)) ≡ 4 * ringCount L dx dy
+    lower-length = short-records-length L (outside values lower dx dy sized)
 
-    upper-length : length (bareRecords 0 0 (ringsOf U dx dy)) ≡ 4 * ringCount U dx dy
-    unfolding directoryWords recordStride
-    upper-length = records-fill-their-room U (outside values upper dx dy sized)
+    upper-length : length (bareBy shortOf 0 0 (ringsOf U dx dy)) ≡ 4 * ringCount U dx dy
+    upper-length = short-records-length U (outside values upper dx dy sized)
 
     filled-is : filled ≡ length (packedPoints (ringsOf L dx dy) ++ packedPoints (ringsOf U dx dy))
     unfolding bandDrawing bandPointWords
@@ -217,8 +216,8 @@ module _ (values : List Float) (lower upper : Level) (dx dy : ℕ) (lines links 
     unfolding bandDrawing
     point-place = lower-words ∙ sym (ap (λ (d : BandDrawing). pointWords (d .«lower_segments») (d .«lower_rings»)) (done .is-drawing))
 
-    record-place : length (bareRecords 0 0 (ringsOf L dx dy)) ≡ directoryWords (drawing .«lower_rings»)
-    unfolding bandDrawing directoryWords recordStride
+    record-place : length (bareBy shortOf 0 0 (ringsOf L dx dy)) ≡ 4 * drawing .«lower_rings»
+    unfolding bandDrawing
     record-place = lower-length ∙ sym (ap (λ (d : BandDrawing). 4 * d .«lower_rings») (done .is-drawing))
 
     module _ (is : outputs ≡ passes) where
@@ -239,27 +238,31 @@ module _ (values : List Float) (lower upper : Level) (dx dy : ℕ) (lines links 
           ∙ ap₂ (λ (back front : List ℕ). sets (storedFrom (pointWords (drawing .«lower_segments») (drawing .«lower_rings»)) back points) 0 front) upper-points lower-points
           ∙ two-sets (packedPoints (ringsOf L dx dy)) (packedPoints (ringsOf U dx dy)) points (pointWords (drawing .«lower_segments») (drawing .«lower_rings»)) point-place (omega (arith, room .0, lower-words, upper-words))
 
-      directory-written : directory₁ ≡ written (bareRecords 0 0 (ringsOf L dx dy) ++ bareRecords 0 0 (ringsOf U dx dy)) directory
+      directory-written : directory₁ ≡ written (bareBy shortOf 0 0 (ringsOf L dx dy) ++ bareBy shortOf 0 0 (ringsOf U dx dy)) directory
       unfolding passTable bandDirectoryWords directoryWords recordStride
       directory-written =
           packs .directory-is
-          ∙ ap (λ (v : Verdict). passTable v directory (sets (storedFrom (directoryWords (drawing .«lower_rings»)) (walkRecords links₁ 0 0 (drawing .head) (drawing .«upper_segments»)) directory) 0
+          ∙ ap (λ (v : Verdict). passTable v directory (sets (storedFrom (4 * drawing .«lower_rings») (walkRecords links₁ 0 0 (drawing .head) (drawing .«upper_segments»)) directory) 0
           (walkRecords (again .links) 0 0 (again .progress .head) (drawing .«lower_segments»)))) (room-is ∙ is)
-          ∙ ap₂ (λ (back front : List ℕ). sets (storedFrom (directoryWords (drawing .«lower_rings»)) back directory) 0 front) upper-records lower-records
-          ∙ two-sets (bareRecords 0 0 (ringsOf L dx dy)) (bareRecords 0 0 (ringsOf U dx dy)) directory (directoryWords (drawing .«lower_rings»)) record-place (omega (arith, room .1, lower-length, upper-length))
+          ∙ ap₂ (λ (back front : List ℕ). sets (storedFrom (4 * drawing .«lower_rings») back directory) 0 front) upper-records lower-records
+          ∙ two-sets (bareBy shortOf 0 0 (ringsOf L dx dy)) (bareBy shortOf 0 0 (ringsOf U dx dy)) directory (4 * drawing .«lower_rings») record-place (omega (arith, room .1, lower-length, upper-length))
 
       abbrev rings : List Line
       rings = ringsOf L dx dy ++ ringsOf U dx dy
 
       abbrev records : List ℕ
-      records = bareRecords 0 0 (ringsOf L dx dy) ++ bareRecords 0 0 (ringsOf U dx dy)
+      records = bareBy shortOf 0 0 (ringsOf L dx dy) ++ bareBy shortOf 0 0 (ringsOf U dx dy)
 
       rings-length : length rings ≡ ringCount L dx dy + ringCount U dx dy
       unfolding ringCount
       rings-length = length-append (ringsOf L dx dy) (ringsOf U dx dy)
 
       records-length : length records ≡ 4 * length rings
-      records-length = omega (arith, length-append (bareRecords 0 0 (ringsOf L dx dy)) (bareRecords 0 0 (ringsOf U dx dy)), lower-length, upper-length, rings-length)
+      records-length = omega (arith, length-append (bareBy shortOf 0 0 (ringsOf L dx dy)) (bareBy shortOf 0 0 (ringsOf U dx dy)), lower-length, upper-length, rings-length)
+
+      room-here : directoryWords (ringCount L dx dy + ringCount U dx dy) ≤ length directory₁
+      unfolding bandDirectoryWords written
+      room-here = omega (arith, room .1, ap length directory-written, length-append records (drop (length records) directory), length-drop (length records) directory)
 
       filled-there : (filled ≤ length points′) × (front ≡ packedPoints (ringsOf L dx dy) ++ packedPoints (ringsOf U dx dy))
       filled-there = rw points-written (written-front (packedPoints (ringsOf L dx dy) ++ packedPoints (ringsOf U dx dy)) points filled filled-is)
@@ -290,16 +293,17 @@ module _ (values : List Float) (lower upper : Level) (dx dy : ℕ) (lines links 
                 (omega (arith, total-append length (ringsOf L dx dy) (ringsOf U dx dy), points-are values lower dx dy sized, points-are values upper dx dy sized, four, four′, few, few′))
                 (take words links₂)
                 (omega (arith, length-take-le words links₂ long, rings-length, four, four′, need))),
+            room-here,
           )
 
       owned-here : ownedDirectory true (built-is.Rings (ringCount L dx dy + ringCount U dx dy)) front directory₁ ≡ written (bandRecords (ringsOf L dx dy) (ringsOf U dx dy)) directory
-      unfolding ownedDirectory recordsOf
+      unfolding ownedDirectory recordsBy
       owned-here =
-          ap (λ (n : ℕ). written (sortedRecords (countedRings front directory₁ 0 n)) directory₁) (sym rings-length)
-          ∙ ap (λ (l : List Line). written (sortedRecords l) directory₁) (rings-are laid)
+          ap (λ (n : ℕ). written (sortedBy recordOf (countedRings front directory₁ 0 n)) directory₁) (sym rings-length)
+          ∙ ap (λ (l : List Line). written (sortedBy recordOf l) directory₁) (rings-are laid)
           ∙ ap₂ written (same-records (ringsOf L dx dy) (ringsOf U dx dy)) directory-written
           ∙ written-over (bandRecords (ringsOf L dx dy) (ringsOf U dx dy)) records directory
-          (band-length (ringsOf L dx dy) (ringsOf U dx dy) ∙ omega (arith, records-length, length-append (ringsOf L dx dy) (ringsOf U dx dy)))
+          (omega (arith, band-length (ringsOf L dx dy) (ringsOf U dx dy), records-length, length-append (ringsOf L dx dy) (ringsOf U dx dy)))
 
     module _ (why : Refusal) (is : outputs ≡ refused why) where
       answer-refused : answer ≡ built-is.Refused why
@@ -347,7 +351,7 @@ module _ (values : List Float) (lower upper : Level) (dx dy : ℕ) (lines links 
     unfolding passTable
     directory-spared why e =
         packs .directory-is
-        ∙ ap (λ (v : Verdict). passTable v directory (sets (storedFrom (directoryWords (drawing .«lower_rings»)) (walkRecords links₁ 0 0 (drawing .head) (drawing .«upper_segments»)) directory) 0
+        ∙ ap (λ (v : Verdict). passTable v directory (sets (storedFrom (4 * drawing .«lower_rings») (walkRecords links₁ 0 0 (drawing .head) (drawing .«upper_segments»)) directory) 0
         (walkRecords (again .links) 0 0 (again .progress .head) (drawing .«lower_segments»)))) (room-is ∙ e)
 
     directory-out : (v : Verdict) → outputs ≡ v → ownedDirectory true answer front directory₁ ≡ outputAfter passes outputs (bandRecords (ringsOf L dx dy) (ringsOf U dx dy)) directory

@@ -6,22 +6,24 @@ use mathlib.Core.List.{List, _++_}
 use Prim.Native.Nat.{ℕ, min, _+_, _*_, _≤_}
 use native.Mathlib.Omega.{arith}
 use lib.Ieee.{Float}
-use lib.ListN.{length, getD, take, drop, replicate, length-append}
+use lib.ListN.{length, getD, take, drop, replicate, length-append, length-drop}
 use lib.Seq.{length-take-le, take-at, drop-at}
 use Rattle.error.specs.declared.Refusal.{Refusal}
 use Rattle.scope.specs.declared.Level.{Level}
+use Rattle.error.specs.declared.Refusal.the-variants.{PointsShort, DirectoryShort}
 use Rattle.scope.specs.Limits.{recordStride}
 use Rattle.scope.specs.Terrain.{Sheet, aboveAt, terrain}
 use Rattle.scope.specs.Stitching.{Line}
 use Rattle.scope.specs.Drawing.{segmentCount, ringCount, ringsOf, peak}
 use Rattle.scope.specs.Room.{openWords, linkWords, pointWords, directoryWords}
-use Rattle.scope.specs.Tables.{written, packedPoints, bareRecords, contourRecords}
-use Rattle.machine.proofs.Built.{links-kept, packed-points-fill-their-room, records-fill-their-room}
+use Rattle.scope.specs.Tables.{written, packedPoints, shortOf, recordOf, bareBy, contourRecords}
+use Rattle.machine.proofs.Built.{links-kept, packed-points-fill-their-room, short-records-length}
 use Rattle.packing.specs.Cleared.{cleared}
 use Rattle.extents.specs.Records.{recordCount}
-use Rattle.regions.specs.Regions.{countedRings}
-use Rattle.isoringbuilder.specs.Verdict.{Verdict, refused, passes, workVerdict, outputVerdict}
-use Rattle.isoringbuilder.specs.Answers.{outputAfter, built, RingsBuilt}
+use Rattle.regions.specs.Regions.{countedRings, contourBy}
+use Rattle.spreading.proofs.Laws.{written-over}
+use Rattle.isoringbuilder.specs.Verdict.{Verdict, refused, passes, workVerdict, roomVerdict, outputVerdict}
+use Rattle.isoringbuilder.specs.Answers.{outputAfter, built}
 use Rattle.isoringbuilder.specs.Pass.{stitchedTables, Passed, Packed}
 use Rattle.isoringbuilder.specs.declared.Pass.{Pass}
 use Rattle.isoringbuilder.specs.declared.Pass.the-variants as pass-is
@@ -29,18 +31,14 @@ use Rattle.isoringbuilder.specs.declared.Drawing.{Drawing}
 use Rattle.isoringbuilder.specs.declared.Built.{Built}
 use Rattle.isoringbuilder.specs.declared.Built.the-variants as built-is
 use Rattle.isoringbuilder.proofs.Limits.{outside, segments-fit, peak-fits, points-fit}
-use Rattle.isoringbuilder.proofs.Laws.{Done, refused-facts, rings-refused, built-done}
+use Rattle.isoringbuilder.proofs.Laws.{Done, BuiltAs, refused-facts, rings-refused, short-done}
 use Rattle.contourbuilder.specs.Contours.{ContoursBuilt}
-use Rattle.contourbuilder.specs.Owning.{recordsOf, Ownable, ownedDirectory, OwnersFound}
+use Rattle.contourbuilder.specs.Owning.{recordsBy, Ownable, ownedDirectory, OwnersFound}
 use Rattle.contourbuilder.proofs.Laid.{Laid, rings-are, workable}
 use Rattle.contourbuilder.proofs.Lengths.{contour-length}
 use Rattle.contourbuilder.proofs.Sizes.{bare-count, fours, rings-drawn, points-are}
 use Rattle.bands.proofs.Stitched.{few-segments}
-
--- words written over words that are as many
-pub written-over : (new old table : List ℕ) → length new ≡ length old → written new (written old table) ≡ written new table
-unfolding written
-written-over new old table e = ap (λ (l : List ℕ). new ++ l) (drop-at old (drop (length old) table) (length new) (sym e) ∙ ap (λ (n : ℕ). drop n table) (sym e))
+use Rattle.bands.proofs.Reports.{both-fit}
 
 -- words that were written stand in front
 pub written-front : (words table : List ℕ) (n : ℕ) → n ≡ length words → (n ≤ length (written words table)) × (take n (written words table) ≡ words)
@@ -74,9 +72,9 @@ module _ (values : List Float) (level : Level) (dx dy : ℕ) (lines links : List
   module _ (drawing : Drawing) (lines₁ links₁ : List ℕ) (done : Done values level dx dy lines links drawing lines₁ links₁) (points directory : List ℕ) (answer : Built) (points′ directory₁ : List ℕ)
       (packed : Packed drawing dx links₁ points directory answer points′ directory₁)
       (words : ℕ) (words-need : words ≡ linkWords (drawing .segments)) (filled : ℕ) (filled-need : filled ≡ pointWords (drawing .segments) (drawing .rings)) where
-    -- what contour_rings would leave here
-    bare : RingsBuilt values level dx dy lines links points directory answer (cleared lines₁ (openWords dx (drawing .peak))) (cleared links₁ (linkWords (drawing .segments))) points′ directory₁
-    bare = built-done values level dx dy lines links drawing lines₁ links₁ done points directory answer points′ directory₁ packed
+    -- what packing leaves here
+    bare : BuiltAs values level dx dy lines links (packedPoints (ringsOf A dx dy)) (bareBy shortOf 0 0 (ringsOf A dx dy)) points directory answer (cleared lines₁ (openWords dx (drawing .peak))) (cleared links₁ (linkWords (drawing .segments))) points′ directory₁
+    bare = short-done values level dx dy lines links drawing lines₁ links₁ done points directory answer points′ directory₁ packed
 
     abbrev outputs : Verdict
     outputs = outputVerdict A dx dy (length points) (length directory)
@@ -106,13 +104,19 @@ module _ (values : List Float) (level : Level) (dx dy : ℕ) (lines links : List
       unfolding outputAfter
       points-written = bare .points-are ∙ ap₂ (λ (v w : Verdict). outputAfter v w (packedPoints (ringsOf A dx dy)) points) (done .is-passes) is
 
-      directory-written : directory₁ ≡ written (bareRecords 0 0 (ringsOf A dx dy)) directory
+      directory-written : directory₁ ≡ written (bareBy shortOf 0 0 (ringsOf A dx dy)) directory
       unfolding outputAfter
-      directory-written = bare .directory-is ∙ ap₂ (λ (v w : Verdict). outputAfter v w (bareRecords 0 0 (ringsOf A dx dy)) directory) (done .is-passes) is
+      directory-written = bare .directory-is ∙ ap₂ (λ (v w : Verdict). outputAfter v w (bareBy shortOf 0 0 (ringsOf A dx dy)) directory) (done .is-passes) is
 
-      bare-length : length (bareRecords 0 0 (ringsOf A dx dy)) ≡ 4 * ringCount A dx dy
-      unfolding directoryWords recordStride
-      bare-length = records-fill-their-room A (outside values level dx dy (done .sized))
+      bare-length : length (bareBy shortOf 0 0 (ringsOf A dx dy)) ≡ 4 * ringCount A dx dy
+      bare-length = short-records-length A (outside values level dx dy (done .sized))
+
+      room-here : directoryWords (ringCount A dx dy) ≤ length directory₁
+      unfolding outputVerdict roomVerdict written
+      room-here =
+          let fits = both-fit PointsShort DirectoryShort (length points) (pointWords (segmentCount A dx dy) (ringCount A dx dy)) (length directory) (directoryWords (ringCount A dx dy)) is in
+          let short : List ℕ = bareBy shortOf 0 0 (ringsOf A dx dy) in
+          omega (arith, fits .1, ap length directory-written, length-append short (drop (length short) directory), length-drop (length short) directory)
 
       filled-there : (filled ≤ length points′) × (front ≡ packedPoints (ringsOf A dx dy))
       filled-there = rw points-written (written-front (packedPoints (ringsOf A dx dy)) points filled filled-is)
@@ -121,8 +125,8 @@ module _ (values : List Float) (level : Level) (dx dy : ℕ) (lines links : List
       unfolding written ringCount recordCount
       laid = record {
         points-are = filled-there .1;
-        records-there = omega (arith, ap length directory-written, bare-length, length-append (bareRecords 0 0 (ringsOf A dx dy)) (drop (length (bareRecords 0 0 (ringsOf A dx dy))) directory));
-        counts-are = λ r h. ap (λ (l : List ℕ). getD l (4 * r + 1) 0) directory-written ∙ bare-count 0 0 (ringsOf A dx dy) (drop (length (bareRecords 0 0 (ringsOf A dx dy))) directory) r h;
+        records-there = omega (arith, ap length directory-written, bare-length, length-append (bareBy shortOf 0 0 (ringsOf A dx dy)) (drop (length (bareBy shortOf 0 0 (ringsOf A dx dy))) directory));
+        counts-are = λ r h. ap (λ (l : List ℕ). getD l (4 * r + 1) 0) directory-written ∙ bare-count 0 0 (ringsOf A dx dy) (drop (length (bareBy shortOf 0 0 (ringsOf A dx dy))) directory) r h;
       }
 
       ownable-here : Ownable (built-is.Rings (ringCount A dx dy)) words links₁ filled points′ directory₁
@@ -137,14 +141,15 @@ module _ (values : List Float) (level : Level) (dx dy : ℕ) (lines links : List
                 (omega (arith, points-are values level dx dy sized, points-fit values level dx dy sized))
                 (take words links₁)
                 (omega (arith, length-take-le words links₁ long, words-are, fours values level dx dy sized)),
+            room-here,
           )
 
       owned-here : ownedDirectory false (built-is.Rings (ringCount A dx dy)) front directory₁ ≡ written (contourRecords (ringsOf A dx dy)) directory
-      unfolding ownedDirectory recordsOf ringCount
+      unfolding ownedDirectory recordsBy contourBy contourRecords ringCount
       owned-here =
           ap (λ (rings : List Line). written (contourRecords rings) directory₁) (rings-are laid)
           ∙ ap (written (contourRecords (ringsOf A dx dy))) directory-written
-          ∙ written-over (contourRecords (ringsOf A dx dy)) (bareRecords 0 0 (ringsOf A dx dy)) directory (contour-length (ringsOf A dx dy) ∙ sym bare-length)
+          ∙ written-over (contourRecords (ringsOf A dx dy)) (bareBy shortOf 0 0 (ringsOf A dx dy)) directory (omega (arith, contour-length (ringsOf A dx dy), bare-length))
 
     module _ (why : Refusal) (is : outputs ≡ refused why) where
       answer-refused : answer ≡ built-is.Refused why
@@ -153,7 +158,7 @@ module _ (values : List Float) (level : Level) (dx dy : ℕ) (lines links : List
 
       directory-spared : directory₁ ≡ directory
       unfolding outputAfter
-      directory-spared = bare .directory-is ∙ ap₂ (λ (v w : Verdict). outputAfter v w (bareRecords 0 0 (ringsOf A dx dy)) directory) (done .is-passes) is
+      directory-spared = bare .directory-is ∙ ap₂ (λ (v w : Verdict). outputAfter v w (bareBy shortOf 0 0 (ringsOf A dx dy)) directory) (done .is-passes) is
 
     pub ownable : Ownable answer words links₁ filled points′ directory₁
     unfolding Ownable

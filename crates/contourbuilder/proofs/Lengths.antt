@@ -9,7 +9,8 @@ use Rattle.scope.specs.Stitching.{Line}
 use Rattle.scope.specs.Contour.{Fate, contourFates, contourClasses, fatesBy}
 use Rattle.scope.specs.Band.{sortKey, Numbered, numberedFrom, sorted, bandOrder, orderRings, classesFrom, bandFates}
 use Rattle.sorting.proofs.TwoPasses.{by-length, sorted-is-by}
-use Rattle.scope.specs.Tables.{ringWords, packedPoints, recordOf, orderedRecords, contourRecords, bandRecords}
+use Rattle.scope.specs.Tables.{ringWords, packedPoints, contourRecords, bandRecords}
+use Rattle.spreading.proofs.Laws.{records-length}
 
 pub packed-both : (lower upper : List Line) → packedPoints (lower ++ upper) ≡ packedPoints lower ++ packedPoints upper
 unfolding packedPoints
@@ -41,28 +42,29 @@ fates-length classes all [] (ring ∷ rings) e = absurd (omega arith)
 fates-length classes all (c ∷ cs) [] e = absurd (omega arith)
 fates-length classes all (c ∷ cs) (ring ∷ rings) e = ap suc (fates-length classes all cs rings (omega arith))
 
-pub records-length : (all : List Line) (k : ℕ) (order : List Numbered) (fates : List Fate) → length fates ≡ length order → length (orderedRecords all k order fates) ≡ 4 * length order
-unfolding orderedRecords recordOf
-records-length all k [] fates e = refl
-records-length all k (n ∷ ns) [] e = absurd (omega arith)
-records-length all k (n ∷ ns) (fate ∷ fates) e = omega (arith, records-length all (suc k) ns fates (omega arith))
-
 classes-counted : (rings : List Line) → length (contourClasses rings) ≡ length rings
 unfolding contourClasses
 classes-counted [] = refl
 classes-counted (ring ∷ rings) = ap suc (classes-counted rings)
 
-pub contour-length : (rings : List Line) → length (contourRecords rings) ≡ 4 * length rings
-unfolding contourRecords contourFates
-contour-length rings =
-    records-length rings 0 (numberedFrom 0 rings) (contourFates rings)
-    (unfold contourFates in fates-length (contourClasses rings) rings (contourClasses rings) rings (classes-counted rings) ∙ sym (numbered-length 0 rings))
-    ∙ ap (λ (n : ℕ). 4 * n) (numbered-length 0 rings)
+-- as many fates as rings, of a contour and of a band
+pub contour-fates-length : (rings : List Line) → length (contourFates rings) ≡ length (numberedFrom 0 rings)
+unfolding contourFates
+contour-fates-length rings = fates-length (contourClasses rings) rings (contourClasses rings) rings (classes-counted rings) ∙ sym (numbered-length 0 rings)
 
-pub band-length : (lower upper : List Line) → length (bandRecords lower upper) ≡ 4 * (length lower + length upper)
-unfolding bandRecords bandOrder bandFates
+pub band-fates-length : (order : List Numbered) → length (bandFates (orderRings order)) ≡ length order
+unfolding bandFates
+band-fates-length order =
+    let rings = orderRings order in
+    fates-length (classesFrom 0 rings rings) rings (classesFrom 0 rings rings) rings (classes-length 0 rings rings) ∙ rings-length order
+
+pub contour-length : (rings : List Line) → length (contourRecords rings) ≡ 6 * length rings
+unfolding contourRecords
+contour-length rings =
+    records-length rings (numberedFrom 0 rings) (contourFates rings) (contour-fates-length rings) ∙ ap (λ (n : ℕ). 6 * n) (numbered-length 0 rings)
+
+pub band-length : (lower upper : List Line) → length (bandRecords lower upper) ≡ 6 * (length lower + length upper)
+unfolding bandRecords bandOrder
 band-length lower upper =
     let order = sorted (numberedFrom 0 (lower ++ upper)) in
-    let rings = orderRings order in
-    let fates : length (bandFates rings) ≡ length order = fates-length (classesFrom 0 rings rings) rings (classesFrom 0 rings rings) rings (classes-length 0 rings rings) ∙ rings-length order in
-    omega (arith, records-length (lower ++ upper) 0 order (bandFates rings) fates, sorted-length (numberedFrom 0 (lower ++ upper)), numbered-length 0 (lower ++ upper), length-append lower upper)
+    omega (arith, records-length (lower ++ upper) order (bandFates (orderRings order)) (band-fates-length order), sorted-length (numberedFrom 0 (lower ++ upper)), numbered-length 0 (lower ++ upper), length-append lower upper)

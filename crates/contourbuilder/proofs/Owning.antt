@@ -7,14 +7,15 @@ use native.Mathlib.Omega.{arith}
 use lib.ListN.{length, take, drop, length-append, length-drop}
 use lib.Seq.{drop-at}
 use Rattle.error.specs.declared.Refusal.{Refusal}
-use Rattle.scope.specs.Tables.{written}
+use Rattle.scope.specs.Room.{directoryWords}
+use Rattle.scope.specs.Tables.{written, recordOf}
 use Rattle.isoringbuilder.specs.declared.Built.{Built}
 use Rattle.isoringbuilder.specs.declared.Built.the-variants as built-is
 use Rattle.regions.specs.Regions.{countedRings, Workable}
-use Rattle.contourbuilder.specs.Owning.{recordsOf, Ownable, ownedDirectory, OwnersFound}
+use Rattle.contourbuilder.specs.Owning.{recordsBy, Ownable, ownedDirectory, OwnersFound}
 
 pub ownable-rings : {answer : Built} {rings : ℕ} → answer ≡ built-is.Rings rings → (words : ℕ) (links : List ℕ) (filled : ℕ) (points directory : List ℕ) → Ownable answer words links filled points directory
-    → (words ≤ length links) × (filled ≤ length points) × Workable (take filled points) directory (take words links) rings
+    → (words ≤ length links) × (filled ≤ length points) × Workable (take filled points) directory (take words links) rings × (directoryWords rings ≤ length directory)
 unfolding Ownable
 ownable-rings {answer} {rings} e words links filled points directory o = subst (λ (a : Built). Ownable a words links filled points directory) e o
 
@@ -25,7 +26,7 @@ none-written e band words links filled points directory =
     record { directory-is = sym (ap (λ (a : Built). ownedDirectory band a (take filled points) directory) e); as-long = refl; past-stays = refl }
 
 pub owners-written : {answer : Built} {rings : ℕ} → answer ≡ built-is.Rings rings → (band : Bool) (words : ℕ) (links part : List ℕ) (filled : ℕ) (points directory directory′ : List ℕ) → words ≤ length links → length part ≡ words
-    → directory′ ≡ written (recordsOf band (countedRings (take filled points) directory 0 rings)) directory → OwnersFound band answer words links (part ++ drop words links) filled points directory directory′
+    → directory′ ≡ written (recordsBy recordOf band (countedRings (take filled points) directory 0 rings)) directory → OwnersFound band answer words links (part ++ drop words links) filled points directory directory′
 unfolding ownedDirectory
 owners-written e band words links part filled points directory directory′ h long d = record {
   directory-is = d ∙ sym (ap (λ (a : Built). ownedDirectory band a (take filled points) directory) e);

@@ -13,7 +13,7 @@ use Rattle.scope.specs.Terrain.{Sheet, aboveAt, terrain}
 use Rattle.scope.specs.Cells.{Point}
 use Rattle.scope.specs.Stitching.{Line}
 use Rattle.scope.specs.Drawing.{segmentsOf, segmentCount, ringsOf, ringCount}
-use Rattle.scope.specs.Tables.{recordOf, bareRecords}
+use Rattle.scope.specs.Tables.{shortOf, bareBy}
 use Rattle.laws.proofs.Total.{total}
 use Rattle.laws.proofs.Conservation.{Each}
 use Rattle.laws.proofs.Rings.{Within, RingLaw}
@@ -24,12 +24,12 @@ use Rattle.isoringbuilder.proofs.Limits.{outside}
 use Rattle.contourbuilder.proofs.Laid.{Drawn, steps}
 
 -- the count of record r, among bare records
-pub bare-count : (k first : ℕ) (rings : List Line) (past : List ℕ) (r : ℕ) → r < length rings → getD (bareRecords k first rings ++ past) (4 * r + 1) 0 ≡ length (getD rings r [])
-unfolding bareRecords recordOf
+pub bare-count : (k first : ℕ) (rings : List Line) (past : List ℕ) (r : ℕ) → r < length rings → getD (bareBy shortOf k first rings ++ past) (4 * r + 1) 0 ≡ length (getD rings r [])
+unfolding bareBy shortOf
 bare-count k first [] past r h = absurd (not-suc-le-zero h)
 bare-count k first (ring ∷ rings) past zero h = refl
 bare-count k first (ring ∷ rings) past (suc r) h =
-    ap (λ (i : ℕ). getD (bareRecords k first (ring ∷ rings) ++ past) i 0) further ∙ bare-count (suc k) (first + length ring) rings past r (le-of-suc-le-suc h)
+    ap (λ (i : ℕ). getD (bareBy shortOf k first (ring ∷ rings) ++ past) i 0) further ∙ bare-count (suc k) (first + length ring) rings past r (le-of-suc-le-suc h)
   where
     further : 4 * suc r + 1 ≡ suc (suc (suc (suc (4 * r + 1))))
     further = omega arith

@@ -20,20 +20,23 @@ use regions::own_contour;
 use scan::TILES;
 use scope::Level;
 use scope::Rule;
+use spreading::spread;
 ghost use mathlib.Core.Path.{_≡_};
+ghost use Prim.Native.Nat.{_≤_};
 ghost use lib.ListN.{length};
 ghost use Rattle.scope.specs.Terrain.{aboveAt, terrain};
-ghost use Rattle.scope.specs.Tables.{written};
+ghost use Rattle.scope.specs.Room.{directoryWords};
+ghost use Rattle.scope.specs.Tables.{written, shortOf, recordOf};
 ghost use Rattle.grid.specs.Grid.{gridFit};
 ghost use Rattle.bands.specs.Bands.{BuiltOver, BandBuilt};
 ghost use Rattle.regions.specs.Regions.{countedRings, Workable};
 ghost use Rattle.contourbuilder.specs.Contours.{ContoursBuilt};
-ghost use Rattle.contourbuilder.specs.Owning.{recordsOf, Ownable, OwnersFound};
+ghost use Rattle.contourbuilder.specs.Owning.{recordsBy, Ownable, OwnersFound};
 
-// The records of `n` rings: those of a band, in its sorted order, or those of a contour.
-fn own_either(band: bool, points: &[u16], directory: &mut [u32], n: usize, scratch: &mut [u32])
+// The records of `n` rings without areas: those of a band, in its sorted order, or those of a contour.
+fn own_short(band: bool, points: &[u16], directory: &mut [u32], n: usize, scratch: &mut [u32])
     requires { ⌜ Workable (now points) (now directory) (now scratch) n ⌝ }
-    ensures { λ _. ⌜ now (directory .exit) ≡ written (recordsOf band (countedRings (now (points .entry)) (now (directory .entry)) 0 n)) (now (directory .entry)) ⌝ }
+    ensures { λ _. ⌜ now (directory .exit) ≡ written (recordsBy shortOf band (countedRings (now (points .entry)) (now (directory .entry)) 0 n)) (now (directory .entry)) ⌝ }
 {
     if band {
         own_band(points, directory, n, scratch);
@@ -42,7 +45,16 @@ fn own_either(band: bool, points: &[u16], directory: &mut [u32], n: usize, scrat
     }
 }
 
-// The classes and owners of the rings that were written, where any were. The first `words` words of the
+// The records of `n` rings: those of a band, in its sorted order, or those of a contour.
+fn own_either(band: bool, points: &[u16], directory: &mut [u32], n: usize, scratch: &mut [u32])
+    requires { ⌜ Workable (now points) (now directory) (now scratch) n × (directoryWords n ≤ length (now directory)) ⌝ }
+    ensures { λ _. ⌜ now (directory .exit) ≡ written (recordsBy recordOf band (countedRings (now (points .entry)) (now (directory .entry)) 0 n)) (now (directory .entry)) ⌝ }
+{
+    own_short(band, points, directory, n, scratch);
+    spread(points, directory, n);
+}
+
+// The records of the rings that were written, where any were. The first `words` words of the
 // link table are worked in, and the first `filled` words of the points are read.
 fn own_rings(
     answer: Built,

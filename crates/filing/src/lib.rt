@@ -1,6 +1,6 @@
 // The table that a search for classes and owners goes by: the extents of the rings by number, the record of each, and the ladders over rings and points.
 use extents::Ladder;
-use limits::RECORD_STRIDE;
+use limits::SHORT_STRIDE;
 ghost use mathlib.Core.Path.{_≡_};
 ghost use Prim.Native.Nat.{_*_, _^_, _≤_, _<_};
 ghost use lib.ListN.{length};
@@ -21,7 +21,7 @@ fn rank_rings(directory: &[u32], n: usize, table: &mut [u32])
     let ranks = 2 * n;
     let mut r: usize = 0;
     while r < n {
-        let number = directory[RECORD_STRIDE * r + 3] as usize;
+        let number = directory[SHORT_STRIDE * r + 3] as usize;
         table[ranks + number] = r as u32;
         r += 1;
     }
@@ -33,8 +33,8 @@ fn measure_ring(points: &[u16], directory: &[u32], n: usize, i: usize, table: &m
     ensures { λ _. ⌜ MeasuredOne (now (points .entry)) (now (directory .entry)) (now (table .entry)) (now (table .exit)) n i ⌝ }
 {
     let r = table[2 * n + i] as usize;
-    let first = directory[RECORD_STRIDE * r] as usize;
-    let count = directory[RECORD_STRIDE * r + 1] as usize;
+    let first = directory[SHORT_STRIDE * r] as usize;
+    let count = directory[SHORT_STRIDE * r + 1] as usize;
     let extent = extents::extent_of(points, first, count);
     extents::put_extent(table, 2 * i, extent);
 }

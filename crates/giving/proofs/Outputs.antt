@@ -1,28 +1,32 @@
 -- The outputs after rings that were given out: the points stand packed and the records one after the other, from the first word on. One ring more is written
--- behind them; its words are those of the line that closes, walked along its links. Assumes nothing.
+-- behind them; its words are those of the line that closes, walked along its links, and where the points have room for it its record has its area. Assumes
+-- nothing.
 use mathlib.Core.Path.{_≡_, refl, sym, _∙_, ap, ap₂}
 use mathlib.Core.List.{List, [], _∷_, _++_, append-assoc, append-nil}
 use Prim.Native.Nat.{ℕ, suc, _+_, _*_, _%_, _^_, _≤_, _<_}
 use native.Mathlib.Nat.{mod-eq-of-lt, add-zero, zero-add}
 use native.Mathlib.Omega.{arith}
 use lib.ListN.{length, drop, length-append, length-map}
-use lib.Seq.{sets, sets-eq}
-use Rattle.scope.specs.Limits.{noOwner, recordStride}
+use lib.Seq.{sets, length-sets, drop-at}
+use Rattle.scope.specs.Limits.{recordStride}
 use Rattle.scope.specs.Cells.{Point, indexedPoint}
 use Rattle.scope.specs.Stitching.{Line}
+use Rattle.scope.specs.Area.{area, areaWords}
 use Rattle.scope.specs.Contour.{line, classWord, ownerWord}
 use Rattle.scope.specs.Room.{directoryWords}
-use Rattle.scope.specs.Tables.{written, ringWords, packedPoints, recordOf, bareRecords}
+use Rattle.scope.specs.Tables.{written, ringWords, packedPoints, shortOf, recordOf, bareBy, bareRecords}
 use Rattle.laws.proofs.Total.{total, total-append}
 use Rattle.laws.proofs.Conservation.{Each}
 use Rattle.laws.proofs.Rings.{Within}
 use Rattle.machine.specs.Machine.{wordOf, linkPoint, linkNext}
-use Rattle.machine.specs.Walk.{indexWords, pointWords, recordWords}
+use Rattle.machine.specs.Walk.{indexWords, pointWords, recordWords, measuredWords}
 use Rattle.machine.proofs.Views.{Slot}
 use Rattle.machine.proofs.Chains.{Linked}
 use Rattle.machine.proofs.Held.{spelled, HeldLine}
-use Rattle.packing.proofs.Laws.{stores-follow}
-use Rattle.giving.specs.Giving.{chainWords, ringOut}
+use Rattle.packing.proofs.Laws.{stores-from-the-start, stores-follow}
+use Rattle.measuring.specs.Ringed.{areaIn}
+use Rattle.spreading.proofs.Laws.{ring-words-length, area-named}
+use Rattle.giving.specs.Giving.{chainWords, ringOut, givenRecord}
 
 -- ---- lists
 
@@ -31,24 +35,19 @@ unfolding packedPoints
 packed-behind [] ring = append-nil (ringWords ring)
 packed-behind (r ∷ rings) ring = ap (λ (w : List ℕ). ringWords r ++ w) (packed-behind rings ring) ∙ sym (append-assoc (ringWords r) (packedPoints rings) (ringWords ring))
 
-ring-length : (l : Line) → length (ringWords l) ≡ 2 * length l
-unfolding ringWords
-ring-length [] = refl
-ring-length (p ∷ l) = omega (arith, ring-length l)
-
 pub packed-length : (rings : List Line) → length (packedPoints rings) ≡ 2 * total length rings
 unfolding packedPoints total
 packed-length [] = refl
-packed-length (ring ∷ rings) = omega (arith, length-append (ringWords ring) (packedPoints rings), ring-length ring, packed-length rings)
+packed-length (ring ∷ rings) = omega (arith, length-append (ringWords ring) (packedPoints rings), ring-words-length ring, packed-length rings)
 
-pub records-length : (k first : ℕ) (rings : List Line) → length (bareRecords k first rings) ≡ 4 * length rings
-unfolding bareRecords recordOf
+pub records-length : (k first : ℕ) (rings : List Line) → length (bareRecords k first rings) ≡ 6 * length rings
+unfolding bareBy recordOf shortOf areaWords
 records-length k first [] = refl
 records-length k first (ring ∷ rings) = omega (arith, records-length (suc k) (first + length ring) rings)
 
 records-behind : (k first : ℕ) (rings : List Line) (ring : Line)
     → bareRecords k first (rings ++ (ring ∷ [])) ≡ bareRecords k first rings ++ recordOf (k + length rings) (first + total length rings) ring line
-unfolding bareRecords total
+unfolding bareBy total
 records-behind k first [] ring =
     append-nil (recordOf k first ring line) ∙ ap₂ (λ (a b : ℕ). recordOf a b ring line) (sym (add-zero k)) (sym (add-zero first))
 records-behind k first (r ∷ rings) ring =
@@ -63,10 +62,14 @@ records-behind k first (r ∷ rings) ring =
     first-is : first + length r + total length rings ≡ first + (length r + total length rings)
     first-is = omega arith
 
--- a ring's record, where its numbers fit their words
-record-is : (k first : ℕ) (ring : Line) → first + length ring < 2 ^ 32 → recordWords first (length ring) ≡ recordOf k first ring line
-unfolding recordWords recordOf classWord ownerWord
-record-is k first ring fits = ap₂ (λ (a b : ℕ). a ∷ b ∷ 2 ∷ noOwner ∷ []) (mod-eq-of-lt (omega arith)) (mod-eq-of-lt (omega arith))
+-- a ring's record, where its numbers fit their words and the points that it names are the ring's
+record-is : (points : List ℕ) (k first size : ℕ) (ring : Line) → length ring ≡ size + 2 → first + length ring < 2 ^ 32 → areaIn points first (length ring) ≡ area ring
+    → givenRecord points first size ≡ recordOf k first ring line
+unfolding givenRecord measuredWords recordWords recordOf shortOf classWord ownerWord wordOf
+record-is points k first size ring long fits named =
+    let count-is : (size + 2) % 2 ^ 32 ≡ length ring = mod-eq-of-lt (omega arith) ∙ sym long in
+    let first-is : first % 2 ^ 32 ≡ first = mod-eq-of-lt (omega arith) in
+    rw (count-is, first-is, named)
 
 -- ---- a line's points as words of sixteen bits
 
@@ -116,60 +119,85 @@ held-length dx links slot chain l held =
 
 -- ---- the outputs
 
--- after these rings, where the tables held points₀ and directory₀ before the first of them
+-- after these rings, where the tables held points₀ and directory₀ before the first of them; the records have the rings' areas where the points have room
 pub record Outputs (points₀ directory₀ : List ℕ) (given : List Line) (points directory : List ℕ) (rings count : ℕ) : Type 0 where
   pub rings-are : rings ≡ length given
   pub points-are : count ≡ total length given
   pub points-out : points ≡ sets points₀ 0 (packedPoints given)
-  pub directory-out : directory ≡ sets directory₀ 0 (bareRecords 0 0 given)
+  pub directory-out : 2 * total length given ≤ length points₀ → directory ≡ sets directory₀ 0 (bareRecords 0 0 given)
 
 -- before the first
 pub none-out : (points directory : List ℕ) → Outputs points directory [] points directory 0 0
-unfolding total packedPoints bareRecords
-none-out points directory = record { rings-are = refl; points-are = refl; points-out = refl; directory-out = refl }
+unfolding total packedPoints bareBy
+none-out points directory = record { rings-are = refl; points-are = refl; points-out = refl; directory-out = λ room. refl }
 
 -- one ring more
-pub one-out : {points₀ directory₀ : List ℕ} {given : List Line} {points directory : List ℕ} {rings count : ℕ} → Outputs points₀ directory₀ given points directory rings count
-    → (dx dy : ℕ) → 2 * dx < 2 ^ 16 → 2 * dy < 2 ^ 16 → (ring : Line) (words : List ℕ) (size : ℕ) → words ≡ narrowWords ring → Each (Within dx dy) ring → length ring ≡ size + 2
-    → total length given + length ring < 2 ^ 32 → length given + 1 < 2 ^ 32
-    → Outputs points₀ directory₀ (given ++ (ring ∷ [])) (sets points (2 * count) words) (sets directory (directoryWords rings) (recordWords count (size + 2))) (wordOf (rings + 1)) (wordOf (count + size + 2))
-unfolding wordOf directoryWords recordStride
-one-out {points₀} {directory₀} {given} {points} {directory} {rings} {count} o dx dy hx hy ring words size spelt inside long few small = record {
-  rings-are = ap (λ (n : ℕ). (n + 1) % 2 ^ 32) (o .rings-are) ∙ mod-eq-of-lt small ∙ sym (length-append given (ring ∷ []));
-  points-are = mod-eq-of-lt (omega (arith, o .points-are)) ∙ omega (arith, o .points-are, total-append length given (ring ∷ []), one);
-  points-out =
-      ap₂ (λ (table : List ℕ) (n : ℕ). sets table n words) (o .points-out) at-points
-      ∙ ap (sets (sets points₀ 0 (packedPoints given)) (0 + length (packedPoints given))) (spelt ∙ narrow-is dx dy hx hy ring inside)
+module _ {points₀ directory₀ : List ℕ} {given : List Line} {points directory : List ℕ} {rings count : ℕ} (o : Outputs points₀ directory₀ given points directory rings count)
+    (dx dy : ℕ) (hx : 2 * dx < 2 ^ 16) (hy : 2 * dy < 2 ^ 16) (ring : Line) (words : List ℕ) (size : ℕ) (spelt : words ≡ narrowWords ring) (inside : Each (Within dx dy) ring)
+    (long : length ring ≡ size + 2) (few : total length given + length ring < 2 ^ 32) (small : length given + 1 < 2 ^ 32) where
+  abbrev points′ : List ℕ
+  points′ = sets points (2 * count) words
+
+  more-points : total length (given ++ (ring ∷ [])) ≡ total length given + length ring
+  more-points = total-append length given (ring ∷ []) ∙ unfold total in omega arith
+
+  at-points : 2 * count ≡ length (packedPoints given)
+  at-points = omega (arith, o .points-are, packed-length given)
+
+  words-are : words ≡ ringWords ring
+  words-are = spelt ∙ narrow-is dx dy hx hy ring inside
+
+  points-stored : points′ ≡ sets points₀ 0 (packedPoints (given ++ (ring ∷ [])))
+  points-stored =
+      ap₂ (λ (table ws : List ℕ). sets table (2 * count) ws) (o .points-out) words-are
+      ∙ ap (λ (n : ℕ). sets (sets points₀ 0 (packedPoints given)) n (ringWords ring)) (at-points ∙ sym (zero-add (length (packedPoints given))))
       ∙ sym (stores-follow points₀ 0 (packedPoints given) (ringWords ring))
-      ∙ ap (sets points₀ 0) (sym (packed-behind given ring));
-  directory-out =
-      ap₂ (λ (table : List ℕ) (n : ℕ). sets table n (recordWords count (size + 2))) (o .directory-out) at-records
-      ∙ ap (sets (sets directory₀ 0 (bareRecords 0 0 given)) (0 + length (bareRecords 0 0 given))) the-record
-      ∙ sym (stores-follow directory₀ 0 (bareRecords 0 0 given) (recordOf (0 + length given) (0 + total length given) ring line))
-      ∙ ap (sets directory₀ 0) (sym (records-behind 0 0 given ring));
-}
-  where
-    one : total length (ring ∷ []) ≡ length ring
-    one = unfold total in omega arith
+      ∙ ap (sets points₀ 0) (sym (packed-behind given ring))
 
-    at-points : 2 * count ≡ 0 + length (packedPoints given)
-    at-points = omega (arith, o .points-are, packed-length given)
+  -- where the points have room for it, its words stand from its first point on
+  area-is : 2 * total length (given ++ (ring ∷ [])) ≤ length points₀ → areaIn points′ count (length ring) ≡ area ring
+  area-is room =
+      area-named points′ count ring (drop (length (packedPoints (given ++ (ring ∷ [])))) points₀)
+      (omega (arith, ap length points-stored, length-sets points₀ 0 (packedPoints (given ++ (ring ∷ []))), o .points-are, more-points))
+      (ap (drop (2 * count)) (points-stored ∙ stores-from-the-start points₀ (packedPoints (given ++ (ring ∷ []))) (omega (arith, packed-length (given ++ (ring ∷ [])))) ∙ apart)
+      ∙ drop-at (packedPoints given) (ringWords ring ++ drop (length (packedPoints (given ++ (ring ∷ [])))) points₀) (2 * count) (sym at-points))
+    where
+      apart : packedPoints (given ++ (ring ∷ [])) ++ drop (length (packedPoints (given ++ (ring ∷ [])))) points₀
+          ≡ packedPoints given ++ (ringWords ring ++ drop (length (packedPoints (given ++ (ring ∷ [])))) points₀)
+      apart =
+          ap (λ (ws : List ℕ). ws ++ drop (length (packedPoints (given ++ (ring ∷ [])))) points₀) (packed-behind given ring)
+          ∙ append-assoc (packedPoints given) (ringWords ring) (drop (length (packedPoints (given ++ (ring ∷ [])))) points₀)
 
-    at-records : 4 * rings ≡ 0 + length (bareRecords 0 0 given)
-    at-records = omega (arith, o .rings-are, records-length 0 0 given)
+  at-records : directoryWords rings ≡ 0 + length (bareRecords 0 0 given)
+  unfolding directoryWords recordStride
+  at-records = omega (arith, o .rings-are, records-length 0 0 given)
 
-    the-record : recordWords count (size + 2) ≡ recordOf (0 + length given) (0 + total length given) ring line
-    the-record =
-        ap₂ recordWords (o .points-are ∙ sym (zero-add (total length given))) (sym long)
-        ∙ record-is (0 + length given) (0 + total length given) ring (omega arith)
+  the-record : 2 * total length (given ++ (ring ∷ [])) ≤ length points₀ → givenRecord points′ count size ≡ recordOf (0 + length given) (0 + total length given) ring line
+  the-record room =
+      record-is points′ (0 + length given) count size ring long (omega (arith, o .points-are)) (area-is room)
+      ∙ ap (λ (first : ℕ). recordOf (0 + length given) first ring line) (o .points-are ∙ sym (zero-add (total length given)))
+
+  pub one-out : Outputs points₀ directory₀ (given ++ (ring ∷ [])) (sets points (2 * count) words)
+      (sets directory (directoryWords rings) (givenRecord (sets points (2 * count) words) count size)) (wordOf (rings + 1)) (wordOf (count + size + 2))
+  unfolding wordOf
+  one-out = record {
+    rings-are = ap (λ (n : ℕ). (n + 1) % 2 ^ 32) (o .rings-are) ∙ mod-eq-of-lt small ∙ sym (length-append given (ring ∷ []));
+    points-are = mod-eq-of-lt (omega (arith, o .points-are)) ∙ omega (arith, o .points-are, more-points);
+    points-out = points-stored;
+    directory-out = λ room.
+        ap₂ (λ (table : List ℕ) (n : ℕ). sets table n (givenRecord points′ count size)) (o .directory-out (omega (arith, more-points))) at-records
+        ∙ ap (sets (sets directory₀ 0 (bareRecords 0 0 given)) (0 + length (bareRecords 0 0 given))) (the-record room)
+        ∙ sym (stores-follow directory₀ 0 (bareRecords 0 0 given) (recordOf (0 + length given) (0 + total length given) ring line))
+        ∙ ap (sets directory₀ 0) (sym (records-behind 0 0 given ring));
+  }
 
 -- where there is room for them, they are written and the words behind them stay
-module _ {points₀ directory₀ : List ℕ} {given : List Line} {points directory : List ℕ} {rings count : ℕ} (o : Outputs points₀ directory₀ given points directory rings count) where
-  pub points-written : 2 * total length given ≤ length points₀ → points ≡ written (packedPoints given) points₀
+module _ {points₀ directory₀ : List ℕ} {given : List Line} {points directory : List ℕ} {rings count : ℕ} (o : Outputs points₀ directory₀ given points directory rings count)
+    (points-fit : 2 * total length given ≤ length points₀) where
+  pub points-written : points ≡ written (packedPoints given) points₀
   unfolding written
-  points-written fits = o .points-out ∙ sets-eq (packedPoints given) points₀ 0 (omega (arith, packed-length given)) ∙ ap (λ (n : ℕ). packedPoints given ++ drop n points₀) (zero-add (length (packedPoints given)))
+  points-written = o .points-out ∙ stores-from-the-start points₀ (packedPoints given) (omega (arith, packed-length given))
 
-  pub records-written : 4 * length given ≤ length directory₀ → directory ≡ written (bareRecords 0 0 given) directory₀
+  pub records-written : 6 * length given ≤ length directory₀ → directory ≡ written (bareRecords 0 0 given) directory₀
   unfolding written
-  records-written fits =
-      o .directory-out ∙ sets-eq (bareRecords 0 0 given) directory₀ 0 (omega (arith, records-length 0 0 given)) ∙ ap (λ (n : ℕ). bareRecords 0 0 given ++ drop n directory₀) (zero-add (length (bareRecords 0 0 given)))
+  records-written fits = o .directory-out points-fit ∙ stores-from-the-start directory₀ (bareRecords 0 0 given) (omega (arith, records-length 0 0 given))

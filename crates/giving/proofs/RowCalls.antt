@@ -211,6 +211,6 @@ module _ (S : Setting) (columns : S .dx ≤ sideLimit) (rows : S .dy ≤ sideLim
         → rowGiven upper lower dx r (filedIn dx g) .points ≡ written (packedPoints (rowRings A dx r)) (S .points)
     call-points = points-written outputs
 
-    pub call-records : 4 * length (rowRings A dx r) ≤ length (S .directory)
+    pub call-records : 2 * total length (rowRings A dx r) ≤ length (S .points) → 6 * length (rowRings A dx r) ≤ length (S .directory)
         → rowGiven upper lower dx r (filedIn dx g) .directory ≡ written (bareRecords 0 0 (rowRings A dx r)) (S .directory)
     call-records = records-written outputs

@@ -11,7 +11,8 @@ use Rattle.scope.specs.Terrain.{Sheet}
 use Rattle.scope.specs.Cells.{Stroke, _⟶_, pointOf, pointIndex, drawn, cellNumber}
 use Rattle.scope.specs.Room.{directoryWords}
 use Rattle.machine.specs.Machine.{wordOf, sideWord, columnWord, firstLink, lastLink, endPoint, linkCount, linkPoint, linkNext, withNext, released, Tables, Entry, entryOf, started, appended, prepended, joined}
-use Rattle.machine.specs.Walk.{indexWords, pointWords, recordWords}
+use Rattle.machine.specs.Walk.{indexWords, pointWords, measuredWords}
+use Rattle.measuring.specs.Ringed.{areaIn}
 use Rattle.drawing.specs.Values.{isMet, lineAt}
 use Rattle.sweep.specs.Sweep.{between, swept, rowCells}
 use Rattle.giving.specs.declared.Play.{Play}
@@ -67,16 +68,21 @@ chainWords dx links k (suc n) = pointWords dx links k ++ chainWords dx links (li
 unfoldable pub ringOut : ℕ → List ℕ → ℕ → ℕ → ℕ → List ℕ
 ringOut dx links first size end = chainWords dx links first size ++ (indexWords dx end ++ pointWords dx links first)
 
--- the line of slot f closes: its ring is written, then its links go in front of the free ones, and its slot is released
+-- the record of a ring of so many links, whose points stand from this one on; its area goes by the point count as the record holds it
+unfoldable pub givenRecord : List ℕ → ℕ → ℕ → List ℕ
+givenRecord points first size = measuredWords first (size + 2) (areaIn points first (wordOf (size + 2)))
+
+-- the line of slot f closes: its ring and its record are written, then its links go in front of the free ones, and its slot is released
 unfoldable pub ringGiven : ℕ → Given → ℕ → Given
 ringGiven dx g f =
     let size : ℕ = linkCount dx (g .lines) f in
+    let points′ : List ℕ = sets (g .points) (2 * g .play .points) (ringOut dx (g .links) (firstLink dx (g .lines) f) size (endPoint dx (g .lines) f)) in
     let links′ : List ℕ = withNext (g .links) (lastLink dx (g .lines) f) (g .play .spare) in
     record {
       lines = released dx (g .lines) links′ (g .play .count - 1) f;
       links = links′;
-      points = sets (g .points) (2 * g .play .points) (ringOut dx (g .links) (firstLink dx (g .lines) f) size (endPoint dx (g .lines) f));
-      directory = sets (g .directory) (directoryWords (g .play .rings)) (recordWords (g .play .points) (size + 2));
+      points = points′;
+      directory = sets (g .directory) (directoryWords (g .play .rings)) (givenRecord points′ (g .play .points) size);
       play = record {
         count = g .play .count - 1;
         spare = firstLink dx (g .lines) f;

@@ -24,6 +24,8 @@ use lines::tables::put_next;
 use lines::tables::release;
 use lines::tables::slot_at;
 use lines::tables::word_of;
+use measuring::area_of;
+use measuring::put_area;
 use packing::next_link;
 use packing::put_index;
 use packing::put_record;
@@ -38,12 +40,13 @@ use words::pane_of;
 ghost use mathlib.Core.Path.{_≡_};
 ghost use Prim.Native.Nat.{_+_, _-_, _^_, _<_};
 ghost use lib.Seq.{sets};
+ghost use Rattle.scope.specs.Room.{directoryWords};
 ghost use Rattle.words.specs.Panes.{Shows, changesIn};
 ghost use Rattle.machine.specs.Machine.{wordOf};
 ghost use Rattle.lines.specs.Values.{edgesOf};
 ghost use Rattle.drawing.specs.Values.{Within, pointsOf, strokeOf};
 ghost use Rattle.sweep.specs.Sweep.{between, swept};
-ghost use Rattle.giving.specs.Giving.{linkTaken, stockAfter, ringOut, ringGiven, strokeGiven, numberGiven, cellGiven, rowGiven, slotsFiled};
+ghost use Rattle.giving.specs.Giving.{linkTaken, stockAfter, ringOut, givenRecord, ringGiven, strokeGiven, numberGiven, cellGiven, rowGiven, slotsFiled};
 ghost use Rattle.giving.specs.Values.{givenOf};
 
 // How far the drawing has come: the open lines; of the links the first free one, how many were ever used and how many are held; and the rings given out
@@ -159,6 +162,17 @@ fn write_ring(
     put_index(points, dx, link_point(links, first), place + 2);
 }
 
+// Stores the record of the ring that was just written, of `size` links: its first point, its point count, class and no owner, and then its area.
+fn put_ring_record(points: &[u16], directory: &mut [u32], p: Play, size: u32)
+    ensures { λ _. ⌜ now (directory .exit) ≡ sets (now (directory .entry)) (directoryWords (p .rings)) (givenRecord (now (points .entry)) (p .points) size) ⌝ }
+{
+    let at = RECORD_STRIDE * (p.rings as usize);
+    put_record(directory, at, p.points as u64, size as u64 + 2);
+    let count = word_of(size as u64 + 2);
+    let area = area_of(points, p.points, count);
+    put_area(directory, at + 4, area);
+}
+
 // The counts after a ring of `size` links from link `first` on is given out, with that many open lines left.
 fn after_ring(p: Play, count: u32, first: u32, size: u32) -> Play
     ensures { λ r. ⌜ r
@@ -174,7 +188,7 @@ fn after_ring(p: Play, count: u32, first: u32, size: u32) -> Play
     }
 }
 
-// The line of slot `f` closes: its ring is written, then its links go in front of the free ones, and its slot is released.
+// The line of slot `f` closes: its ring and its record are written, then its links go in front of the free ones, and its slot is released.
 fn give_ring(
     lines: &mut [u32],
     links: &mut [u32],
@@ -198,12 +212,7 @@ fn give_ring(
         points,
         2 * (p.points as usize),
     );
-    put_record(
-        directory,
-        RECORD_STRIDE * (p.rings as usize),
-        p.points as u64,
-        size as u64 + 2,
-    );
+    put_ring_record(points, directory, p, size);
     put_next(links, line.last, p.spare);
     let count = one_less(p.count);
     release(lines, links, dx, count, f);

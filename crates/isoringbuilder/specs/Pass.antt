@@ -8,8 +8,10 @@ use lib.Seq.{sets}
 use Rattle.scope.specs.declared.Level.{Level}
 use Rattle.scope.specs.Terrain.{Sheet}
 use Rattle.scope.specs.Drawing.{segmentCount, ringCount, peak}
+use Rattle.scope.specs.Tables.{written}
 use Rattle.machine.specs.Machine.{Tables, runAfter, runOver}
 use Rattle.machine.specs.Walk.{walkPoints, walkRecords}
+use Rattle.spreading.specs.Spread.{spreadFrom}
 use Rattle.isoringbuilder.specs.Verdict.{Verdict, refused, passes, roomVerdict}
 use Rattle.isoringbuilder.specs.Answers.{above, onEntry}
 use Rattle.isoringbuilder.specs.declared.Built.{Built}
@@ -41,6 +43,17 @@ pub record Packed (drawing : Drawing) (dx : ℕ) (links points directory : List 
   pub answers : answer ≡ packed (roomVerdict (drawing .segments) (drawing .rings) (length points) (length directory)) (drawing .rings)
   pub points-are : points′ ≡ passTable (roomVerdict (drawing .segments) (drawing .rings) (length points) (length directory)) points (sets points 0 (walkPoints dx links (drawing .head) (drawing .head) (drawing .segments)))
   pub directory-is : directory′ ≡ passTable (roomVerdict (drawing .segments) (drawing .rings) (length points) (length directory)) directory (sets directory 0 (walkRecords links 0 0 (drawing .head) (drawing .segments)))
+
+-- the directory once the records of rings that were written are spread out
+unfoldable pub spreadOut : Built → List ℕ → List ℕ → List ℕ
+spreadOut (built-is.Refused why) points directory = directory
+spreadOut (built-is.Rings rings) points directory = written (spreadFrom points directory 0 rings) directory
+
+-- what packing leaves, spread out
+pub record PackedWhole (drawing : Drawing) (dx : ℕ) (links points directory : List ℕ) (answer : Built) (points′ directory′ : List ℕ) : Type 0 where
+  pub short : List ℕ
+  pub packed : Packed drawing dx links points directory answer points′ short
+  pub spread : directory′ ≡ spreadOut answer points′ short
 
 pub record Passed (values : List Float) (level : Level) (dx dy : ℕ) (lines links : List ℕ) (answer : Pass) (lines′ links′ : List ℕ) : Type 0 where
   pub answers : answer ≡ passed (onEntry values level dx dy lines links) (above values level dx dy) dx dy (stitchedTables (above values level dx dy) dx dy lines links)

@@ -9,6 +9,7 @@ use packing::write_rings;
 use scan::TILES;
 use scan::scan;
 use scope::Level;
+use spreading::spread;
 use stitching::stitch;
 ghost use mathlib.Core.Path.{_≡_};
 ghost use Prim.Native.Nat.{_≤_};
@@ -18,7 +19,7 @@ ghost use Rattle.scope.specs.Room.{openWords, linkWords, pointWords, directoryW
 ghost use Rattle.grid.specs.Grid.{gridFit};
 ghost use Rattle.isoringbuilder.specs.Answers.{SecondReported, RingsBuilt};
 ghost use Rattle.isoringbuilder.specs.Verdict.{roomVerdict};
-ghost use Rattle.isoringbuilder.specs.Pass.{packed, Passed, Packed};
+ghost use Rattle.isoringbuilder.specs.Pass.{packed, Passed, Packed, PackedWhole};
 
 // What the second report answers.
 pub enum SecondReport {
@@ -170,7 +171,7 @@ pub fn answer_for(segments: u32, rings: u32, points: usize, room: usize) -> Buil
     Built::Rings(rings)
 }
 
-// The points and the directory of the rings that a pass has drawn, where both fit; both are spared where one does not.
+// The points of the rings that a pass has drawn, and their records without areas, where points and whole records fit; both are spared where one does not.
 pub fn pack(
     drawing: Drawing,
     dx: u32,
@@ -192,6 +193,24 @@ pub fn pack(
     answer
 }
 
+// The points and the directory of the rings that a pass has drawn, where both fit; both are spared where one does not.
+fn pack_whole(
+    drawing: Drawing,
+    dx: u32,
+    links: &[u32],
+    points: &mut [u16],
+    directory: &mut [u32],
+) -> Built
+    ensures { λ r. ⌜ PackedWhole drawing dx (now (links .entry)) (now (points .entry)) (now (directory .entry)) r (now (points .exit)) (now (directory .exit)) ⌝ }
+{
+    let answer = pack(drawing, dx, links, points, directory);
+    let Built::Rings(rings) = answer else {
+        return answer;
+    };
+    spread(points, directory, rings as usize);
+    answer
+}
+
 // Every ring of a grid at one level, in the crate's order, vertex order and first vertex, as bare rings: points packed by ring number, and a directory
 // record a ring. On success, and where points or directory are short, the needed words of both work tables are zero; any refusal spares the outputs.
 pub fn contour_rings(
@@ -210,7 +229,7 @@ pub fn contour_rings(
     match run_pass(values, level, dx, dy, lines, links) {
         Pass::Refused(refusal) => Built::Refused(refusal),
         Pass::Done(drawing) => {
-            let answer = pack(drawing, dx as u32, links, points, directory);
+            let answer = pack_whole(drawing, dx as u32, links, points, directory);
             let peak = drawing.peak;
             let segments = drawing.segments;
             clear(lines, open_words(dx, peak));

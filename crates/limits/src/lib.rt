@@ -10,8 +10,11 @@ pub const COORDINATE_LIMIT: u16 = 8192;
 // The largest number of points of a ring.
 pub const POINT_LIMIT: usize = 67108864;
 
-// The words of a directory record: first point, point count, class, owner.
-pub const RECORD_STRIDE: usize = 4;
+// The words of a directory record: first point, point count, class, owner, and the area, which takes two.
+pub const RECORD_STRIDE: usize = 6;
+
+// The words of a record without its area. A build works on such records, and spreads them out at the end.
+pub const SHORT_STRIDE: usize = 4;
 
 // The class of a polygon, in a directory record.
 pub const POLYGON: u32 = 0;

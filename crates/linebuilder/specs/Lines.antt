@@ -4,6 +4,7 @@ use mathlib.Core.Bool.{Bool}
 use mathlib.Core.List.{List}
 use Prim.Native.Nat.{ℕ}
 use lib.Ieee.{Float}
+use lib.IntN.{pos}
 use lib.ListN.{length}
 use lib.Seq.{sets}
 use Rattle.scope.specs.declared.Level.{Level}
@@ -11,7 +12,7 @@ use Rattle.scope.specs.Drawing.{segmentCount, ringsOf, peak}
 use Rattle.scope.specs.Room.{openWords, linkWords}
 use Rattle.scope.specs.Smoothing.{Placing}
 use Rattle.scope.specs.Tables.{linePoints, bareRecords}
-use Rattle.machine.specs.Walk.{walkWords, walkRecords}
+use Rattle.machine.specs.Walk.{walkWords, walkMeasured}
 use Rattle.plotting.specs.Plot.{vertexAt}
 use Rattle.isoringbuilder.specs.Verdict.{roomVerdict}
 use Rattle.isoringbuilder.specs.Answers.{workAfter, outputAfter, built, above, onEntry, onOutputs}
@@ -24,7 +25,7 @@ pub record Plotted (drawing : Drawing) (values : List Float) (threshold : Float)
   pub answers : answer ≡ packed (roomVerdict (drawing .segments) (drawing .rings) (length points) (length directory)) (drawing .rings)
   pub points-are : points′ ≡ passTable (roomVerdict (drawing .segments) (drawing .rings) (length points) (length directory)) points
       (sets points 0 (walkWords (vertexAt smooth values threshold dx dy q links) links (drawing .head) (drawing .head) (drawing .segments)))
-  pub directory-is : directory′ ≡ passTable (roomVerdict (drawing .segments) (drawing .rings) (length points) (length directory)) directory (sets directory 0 (walkRecords links 0 0 (drawing .head) (drawing .segments)))
+  pub directory-is : directory′ ≡ passTable (roomVerdict (drawing .segments) (drawing .rings) (length points) (length directory)) directory (sets directory 0 (walkMeasured dx links (drawing .head) 0 0 (pos 0) (drawing .head) (drawing .segments)))
 
 -- what contour_lines answers and leaves, on every input
 pub record LinesBuilt (values : List Float) (level : Level) (dx dy : ℕ) (smooth : Bool) (q : Placing) (lines links : List ℕ) (points : List Float) (directory : List ℕ) (answer : Built) (lines′ links′ : List ℕ) (points′ : List Float) (directory′ : List ℕ) : Type 0 where

@@ -3,9 +3,10 @@
 use mathlib.Core.Path.{_≡_, refl, sym, _∙_, ap, ap₂, subst}
 use mathlib.Core.List.{List, [], _∷_, _++_, flatMap}
 use Prim.Native.Nat.{ℕ, suc, _+_, _*_, _%_, _^_, _≤_, _<_}
-use native.Mathlib.Nat.{mod-eq-of-lt}
+use native.Mathlib.Nat.{mod-eq-of-lt, mul-zero, mul-suc, add-comm}
 use native.Mathlib.Decide.{decLt}
 use native.Mathlib.Omega.{arith}
+use lib.IntN.{pos}
 use lib.ListN.{length, drop, length-append}
 use Rattle.scope.specs.Terrain.{Sheet}
 use Rattle.scope.specs.Limits.{recordStride}
@@ -13,7 +14,9 @@ use Rattle.scope.specs.Cells.{Point, indexedPoint}
 use Rattle.scope.specs.Stitching.{Line, nothing, stitchAll}
 use Rattle.scope.specs.Drawing.{segmentsAfter, drawingAfter, ringsAfter, ringsOf, segmentsOf, segmentCount, ringCount, peak}
 use Rattle.scope.specs.Room.{openWords, linkWords, pointCount, pointWords, directoryWords}
-use Rattle.scope.specs.Tables.{ringWords, packedPoints, recordOf, bareRecords}
+use Rattle.scope.specs.Area.{areaWords}
+use Rattle.scope.specs.Contour.{Fate, line}
+use Rattle.scope.specs.Tables.{ringWords, packedPoints, shortOf, recordOf, bareBy, bareRecords}
 use Rattle.laws.proofs.Total.{total}
 use Rattle.laws.proofs.Conservation.{Each}
 use Rattle.laws.proofs.Edges.{Outside}
@@ -21,13 +24,13 @@ use Rattle.laws.proofs.Rings.{RingLaw, Within}
 use Rattle.laws.proofs.Laws.{rings-are-rings, points-are-segments-and-rings}
 use Rattle.machine.specs.Machine.{mark, Tables, runAfter, runOver, linkPoint}
 use Rattle.machine.specs.Walk as walk
-use Rattle.machine.specs.Walk.{walkWords, walkPoints, walkRecords}
+use Rattle.machine.specs.Walk.{walkWords, walkPoints, walkRecords, walkMeasured}
 use Rattle.machine.proofs.Chains.{uses}
 use Rattle.machine.proofs.Held.{HeldRings, rings-counted}
 use Rattle.machine.proofs.Steps.{Kept, Carried}
 use Rattle.machine.proofs.Leaving.{all}
 use Rattle.machine.proofs.WholeRun.{run-holds}
-use Rattle.machine.proofs.Walking.{words-walked, records-walked, points-counted}
+use Rattle.machine.proofs.Walking.{words-walked, records-walked, measured-walked, points-counted}
 
 -- ---- the sizes of the packed tables
 
@@ -42,10 +45,15 @@ module _ {Word : Type 0} (f : Point → List Word) (two : (p : Point) → length
   words-length [] = refl
   words-length (ring ∷ rings) = omega (arith, length-append (flatMap f ring) (flatMap (flatMap f) rings), line-length ring, words-length rings)
 
-records-length : (k first : ℕ) (rings : List Line) → length (bareRecords k first rings) ≡ 4 * length rings
-unfolding bareRecords recordOf
-records-length k first [] = refl
-records-length k first (ring ∷ rings) = omega (arith, records-length (suc k) (first + length ring) rings)
+-- where each record has as many words
+bare-length : (words : ℕ → ℕ → Line → Fate → List ℕ) (each : ℕ) → ((k first : ℕ) (ring : Line) → length (words k first ring line) ≡ each)
+    → (k first : ℕ) (rings : List Line) → length (bareBy words k first rings) ≡ each * length rings
+unfolding bareBy
+bare-length words each has k first [] = sym (mul-zero each)
+bare-length words each has k first (ring ∷ rings) =
+    length-append (words k first ring line) (bareBy words (suc k) (first + length ring) rings)
+    ∙ ap₂ (λ (a b : ℕ). a + b) (has k first ring) (bare-length words each has (suc k) (first + length ring) rings)
+    ∙ sym (mul-suc each (length rings) ∙ add-comm (each * length rings) each)
 
 -- ---- the points as words
 
@@ -91,7 +99,11 @@ module _ (A : Sheet) {dx dy : ℕ} (out : Outside A dx dy) where
 
   pub records-fill-their-room : length (bareRecords 0 0 (ringsOf A dx dy)) ≡ directoryWords (ringCount A dx dy)
   unfolding directoryWords recordStride ringCount
-  records-fill-their-room = omega (arith, records-length 0 0 (ringsOf A dx dy))
+  records-fill-their-room = bare-length recordOf 6 (λ k first ring. unfold recordOf shortOf areaWords in refl) 0 0 (ringsOf A dx dy)
+
+  pub short-records-length : length (bareBy shortOf 0 0 (ringsOf A dx dy)) ≡ 4 * ringCount A dx dy
+  unfolding ringCount
+  short-records-length = bare-length shortOf 4 (λ k first ring. unfold shortOf in refl) 0 0 (ringsOf A dx dy)
 
   -- the run over tables that have the reported room
   module _ (lines links : List ℕ) (lines-fit : openWords dx (peak A dx dy) ≤ length lines) (links-fit : linkWords (segmentCount A dx dy) ≤ length links)
@@ -148,10 +160,17 @@ module _ (A : Sheet) {dx dy : ℕ} (out : Outside A dx dy) where
         ∙ rings-narrow dx dy hx hy (ringsOf A dx dy) (unfold ringsOf in rings-are-rings A out dy (suc dx) (omega arith) (omega arith))
         ∙ rings-packed (ringsOf A dx dy)
 
-    pub records-found : segmentCount A dx dy + ringCount A dx dy < 2 ^ 32 → walkRecords (after .links) 0 0 (after .progress .head) (segmentCount A dx dy) ≡ bareRecords 0 0 (ringsOf A dx dy)
-    records-found fits =
-        subst (λ (n : ℕ). walkRecords (after .links) 0 0 (after .progress .head) n ≡ bareRecords 0 0 (ringsOf A dx dy)) links-are
-        (records-walked dx (after .links) 0 0 (after .progress .head) (holds .loops) (ringsOf A dx dy) (after .progress .tail) held-rings links-below (omega (arith, points-are-segments-and-rings A out)))
+    -- the records without areas, and with them
+    module _ (fits : segmentCount A dx dy + ringCount A dx dy < 2 ^ 32) where
+      pub records-found : walkRecords (after .links) 0 0 (after .progress .head) (segmentCount A dx dy) ≡ bareBy shortOf 0 0 (ringsOf A dx dy)
+      records-found =
+          subst (λ (n : ℕ). walkRecords (after .links) 0 0 (after .progress .head) n ≡ bareBy shortOf 0 0 (ringsOf A dx dy)) links-are
+          (records-walked dx (after .links) (after .progress .head) (holds .loops) (ringsOf A dx dy) (after .progress .tail) held-rings links-below (omega (arith, points-are-segments-and-rings A out)))
+
+      pub measured-found : walkMeasured dx (after .links) (after .progress .head) 0 0 (pos 0) (after .progress .head) (segmentCount A dx dy) ≡ bareRecords 0 0 (ringsOf A dx dy)
+      measured-found =
+          subst (λ (n : ℕ). walkMeasured dx (after .links) (after .progress .head) 0 0 (pos 0) (after .progress .head) n ≡ bareRecords 0 0 (ringsOf A dx dy)) links-are
+          (measured-walked dx (after .links) (after .progress .head) (holds .loops) (ringsOf A dx dy) (after .progress .tail) held-rings links-below (omega (arith, points-are-segments-and-rings A out)))
 
     pub lines-kept : (openWords dx (peak A dx dy) ≤ length (after .lines)) × (drop (openWords dx (peak A dx dy)) (after .lines) ≡ drop (openWords dx (peak A dx dy)) lines)
     lines-kept =

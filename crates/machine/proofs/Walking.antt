@@ -1,21 +1,23 @@
 -- One walk along the links gives the words and the records of the rings that the tables hold, in order, whatever words a point has. Assumes nothing.
-use mathlib.Core.Path.{_≡_, refl, sym, _∙_, ap, ap₂}
+use mathlib.Core.Path.{_≡_, refl, sym, _∙_, ap, ap₂, subst}
 use mathlib.Core.Bool.{Bool, true, false, cond}
 use mathlib.Core.List.{List, [], _∷_, _++_, map, flatMap, append-assoc, append-nil}
-use Prim.Native.Nat.{ℕ, suc, _+_, _-_, _%_, _^_, _≤_, _<_}
-use native.Mathlib.Nat.{suc-add, zero-add, add-zero, mod-eq-of-lt}
+use Prim.Native.Nat.{ℕ, zero, suc, _+_, _-_, _*_, _%_, _^_, _≤_, _<_}
+use native.Mathlib.Nat.{suc-add, zero-add, add-zero, mul-comm, mod-eq-of-lt}
 use native.Mathlib.Omega.{arith}
 use lib.Dec.{ltb}
+use lib.IntN.{ℤ, pos, _+ℤ_, +ℤ-assoc, +ℤ-idl, +ℤ-idr, +ℤ-invr}
 use lib.ListN.{length, length-append, length-map}
 use borrow.Author.Tests.{lt-ltb, le-ltb, eq-eqb}
 use Rattle.scope.specs.Limits.{noOwner}
 use Rattle.scope.specs.Cells.{Point, indexedPoint, when}
 use Rattle.scope.specs.Stitching.{Line}
-use Rattle.scope.specs.Contour.{line, classWord, ownerWord}
-use Rattle.scope.specs.Tables.{recordOf, bareRecords}
+use Rattle.scope.specs.Area.{twist, twists, lastOf, area, areaWords}
+use Rattle.scope.specs.Contour.{Fate, line, classWord, ownerWord}
+use Rattle.scope.specs.Tables.{shortOf, recordOf, bareBy, bareRecords}
 use Rattle.laws.proofs.Total.{total}
 use Rattle.machine.specs.Machine.{mark, linkPoint, linkNext}
-use Rattle.machine.specs.Walk.{walkWords, recordWords, walkRecords}
+use Rattle.machine.specs.Walk.{walkWords, startPoint, linkTwist, walkBy, recordWords, walkRecords, measuredWords, walkMeasured}
 use Rattle.machine.proofs.Chains.{Linked, uses, uses-cons}
 use Rattle.machine.proofs.Held.{spelled, HeldRing, HeldRings}
 
@@ -105,42 +107,9 @@ module _ {Word : Type 0} (f : Point → List Word) (dx : ℕ) (links : List ℕ)
       ∙ ap₂ (λ (a b : List Word). a ++ b) (sym (held-words head (held .0) q ring (held .2)))
       (words-walked (held .1) (q′ ∷ qs) (ring′ ∷ rings) tail (held .4) (λ k u. numbers k (omega arith)))
 
--- ---- records
+-- ---- counts
 
 module _ (dx : ℕ) (links : List ℕ) where
-  inner-record : (f size k n : ℕ) → ltb (linkNext links k) mark ≡ true → walkRecords links f size k (suc n) ≡ walkRecords links f (suc size) (linkNext links k) n
-  unfolding walkRecords
-  inner-record f size k n t =
-      ap (λ (b : Bool). cond b (walkRecords links f (suc size) (linkNext links k) n) (recordWords f (size + 2) ++ walkRecords links (f + size + 2) 0 (linkNext links k - mark) n)) t
-
-  last-record : (f size k h n : ℕ) → (ltb (linkNext links k) mark ≡ false) × (linkNext links k - mark ≡ h) → walkRecords links f size k (suc n) ≡ recordWords f (size + 2) ++ walkRecords links (f + size + 2) 0 h n
-  unfolding walkRecords
-  last-record f size k h n w =
-      ap₂ (λ (b : Bool) (m : ℕ). cond b (walkRecords links f (suc size) (linkNext links k) n) (recordWords f (size + 2) ++ walkRecords links (f + size + 2) 0 m n)) (w .0) (w .1)
-
-  record-walked : (f size a : ℕ) (chain : List ℕ) (z h n : ℕ) → Linked (linkNext links) a chain z → ((k : ℕ) → 1 ≤ uses k chain → k < mark) → linkNext links z ≡ mark + h
-      → walkRecords links f size a (length chain + n) ≡ recordWords f (size + length chain + 1) ++ walkRecords links (f + (size + length chain + 1)) 0 h n
-  record-walked f size a [] z h n l small e = absurd l
-  record-walked f size a (x ∷ []) z h n l small e =
-      ap (walkRecords links f size a) (suc-add 0 n ∙ ap suc (zero-add n))
-      ∙ last-record f size a h n (after-mark links a h (ap (linkNext links) (sym (l .0) ∙ l .1) ∙ e))
-      ∙ ap₂ (λ (count first : ℕ). recordWords f count ++ walkRecords links first 0 h n) count-is first-is
-    where
-      count-is : size + 2 ≡ size + 1 + 1
-      count-is = omega arith
-
-      first-is : f + size + 2 ≡ f + (size + 1 + 1)
-      first-is = omega arith
-  record-walked f size a (x ∷ y ∷ c) z h n l small e =
-      ap (walkRecords links f size a) (suc-add (length (y ∷ c)) n)
-      ∙ inner-record f size a (length (y ∷ c) + n) (lt-ltb (linkNext links a) mark (omega (arith, small y (omega (arith, uses-cons y x (y ∷ c), uses-cons y y c, ap (when 1) (eq-eqb y y refl))), first-of links (linkNext links x) y c z (l .1), ap (linkNext links) (l .0))))
-      ∙ ap (λ (m : ℕ). walkRecords links f (suc size) m (length (y ∷ c) + n)) (ap (linkNext links) (sym (l .0)))
-      ∙ record-walked f (suc size) (linkNext links x) (y ∷ c) z h n (l .1) (λ k u. small k (omega (arith, uses-cons k x (y ∷ c)))) e
-      ∙ ap (λ (count : ℕ). recordWords f count ++ walkRecords links (f + count) 0 h n) count-is
-    where
-      count-is : suc size + length (y ∷ c) + 1 ≡ size + suc (length (y ∷ c)) + 1
-      count-is = omega arith
-
   -- a held ring has a point more than links
   held-length : (first last : ℕ) (chain : List ℕ) (ring : Line) → HeldRing dx links first last chain ring → length ring ≡ length chain + 1
   unfolding spelled
@@ -158,32 +127,154 @@ module _ (dx : ℕ) (links : List ℕ) where
   points-counted head (q ∷ q′ ∷ qs) (ring ∷ []) tail held = absurd held
   points-counted head (q ∷ q′ ∷ qs) (ring ∷ ring′ ∷ rings) tail held = omega (arith, held-length head (held .0) q ring (held .2), points-counted (held .1) (q′ ∷ qs) (ring′ ∷ rings) tail (held .4))
 
-  -- a ring's record, where its numbers fit their words
-  bare-record : (k first : ℕ) (q : List ℕ) (ring : Line) → length ring ≡ length q + 1 → first + length ring < 2 ^ 32 → recordWords first (0 + length q + 1) ≡ recordOf k first ring line
-  unfolding recordWords recordOf classWord ownerWord
-  bare-record k first q ring e fits =
-      ap₂ (λ (a b : ℕ). a ∷ b ∷ 2 ∷ noOwner ∷ []) (mod-eq-of-lt (omega arith)) (ap (λ (n : ℕ). n % 2 ^ 32) same ∙ mod-eq-of-lt (omega arith))
-    where
-      same : 0 + length q + 1 ≡ length ring
-      same = omega arith
+-- ---- records
 
-  pub records-walked : (k first head : ℕ) (loops : List (List ℕ)) (rings : List Line) (tail : ℕ) → HeldRings dx links head loops rings tail → ((k : ℕ) → 1 ≤ total (uses k) loops → k < mark) → first + total length rings < 2 ^ 32
-      → walkRecords links first 0 head (total length loops) ≡ bareRecords k first rings
-  unfolding total bareRecords
-  records-walked k first head [] [] tail held numbers fits = unfold walkRecords in refl
-  records-walked k first head [] (ring ∷ rings) tail held numbers fits = absurd held
-  records-walked k first head (q ∷ []) [] tail held numbers fits = absurd held
-  records-walked k first head (q ∷ []) (ring ∷ []) tail held numbers fits =
-      record-walked first 0 head q tail 0 0 (held .0 .linked) (λ m u. numbers m (omega arith)) (held .1 ∙ sym (add-zero mark))
-      ∙ ap₂ (λ (a b : List ℕ). a ++ b) (bare-record k first q ring (held-length head tail q ring (held .0)) (omega arith)) (unfold walkRecords in refl)
-  records-walked k first head (q ∷ []) (ring ∷ ring′ ∷ rings) tail held numbers fits = absurd held
-  records-walked k first head (q ∷ q′ ∷ qs) [] tail held numbers fits = absurd held
-  records-walked k first head (q ∷ q′ ∷ qs) (ring ∷ []) tail held numbers fits = absurd held
-  records-walked k first head (q ∷ q′ ∷ qs) (ring ∷ ring′ ∷ rings) tail held numbers fits =
-      record-walked first 0 head q (held .0) (held .1) (length q′ + total length qs) (held .2 .linked) (λ m u. numbers m (omega arith)) (held .3)
-      ∙ ap₂ (λ (a b : List ℕ). a ++ b) (bare-record k first q ring (held-length head (held .0) q ring (held .2)) (omega arith))
-      (ap (λ (f : ℕ). walkRecords links f 0 (held .1) (length q′ + total length qs)) next-first
-      ∙ records-walked (suc k) (first + length ring) (held .1) (q′ ∷ qs) (ring′ ∷ rings) tail (held .4) (λ m u. numbers m (omega arith)) (omega arith))
+-- a step that stays adds nothing
+no-step : (p : Point) → twist p p ≡ pos 0
+unfolding twist
+no-step p = rw (mul-comm (p .y) (p .x)) (+ℤ-invr (pos (p .x * p .y)))
+
+-- the area of a closed ring: what the steps from its first point add
+pub closed-area : (p : Point) (l : Line) → lastOf p l ≡ p → area (p ∷ l) ≡ twists p l
+unfolding area
+closed-area p l closed =
+    let first : twists p (p ∷ l) ≡ twist p p +ℤ twists p l = unfold twists in refl in
+    ap (λ (q : Point). twists q (p ∷ l)) closed ∙ first ∙ ap (λ (z : ℤ). z +ℤ twists p l) (no-step p) ∙ +ℤ-idl (twists p l)
+
+last-behind : (p : Point) (l : Line) (q : Point) → lastOf p (l ++ (q ∷ [])) ≡ q
+unfolding lastOf
+last-behind p [] q = refl
+last-behind p (r ∷ l) q = last-behind r l q
+
+-- words gives a record
+module _ (words : ℕ → ℕ → ℤ → List ℕ) (dx : ℕ) (links : List ℕ) where
+  inner-record : (h f size : ℕ) (a : ℤ) (k n : ℕ) → ltb (linkNext links k) mark ≡ true
+      → walkBy words dx links h f size a k (suc n) ≡ walkBy words dx links h f (suc size) (a +ℤ linkTwist dx links k (linkNext links k)) (linkNext links k) n
+  unfolding walkBy
+  inner-record h f size a k n t = rw t
+
+  last-record : (h f size : ℕ) (a : ℤ) (k h′ n : ℕ) → (ltb (linkNext links k) mark ≡ false) × (linkNext links k - mark ≡ h′)
+      → walkBy words dx links h f size a k (suc n) ≡ words f (size + 2) (a +ℤ linkTwist dx links k h) ++ walkBy words dx links h′ (f + size + 2) 0 (pos 0) h′ n
+  unfolding walkBy
+  last-record h f size a k h′ n w = rw (w .0, w .1)
+
+  -- the steps from a link along a chain behind it, and back to link h
+  steps : ℕ → ℕ → List ℕ → ℤ
+  steps h x [] = linkTwist dx links x h
+  steps h x (y ∷ c) = linkTwist dx links x y +ℤ steps h y c
+
+  record-walked : (h f size : ℕ) (a : ℤ) (x : ℕ) (chain : List ℕ) (z h′ n : ℕ) → Linked (linkNext links) x (x ∷ chain) z → ((k : ℕ) → 1 ≤ uses k (x ∷ chain) → k < mark)
+      → linkNext links z ≡ mark + h′
+      → walkBy words dx links h f size a x (length (x ∷ chain) + n)
+      ≡ words f (size + length (x ∷ chain) + 1) (a +ℤ steps h x chain) ++ walkBy words dx links h′ (f + (size + length (x ∷ chain) + 1)) 0 (pos 0) h′ n
+  unfolding steps
+  record-walked h f size a x [] z h′ n l small e =
+      ap (walkBy words dx links h f size a x) (suc-add 0 n ∙ ap suc (zero-add n))
+      ∙ last-record h f size a x h′ n (after-mark links x h′ (ap (linkNext links) (l .1) ∙ e))
+      ∙ ap₂ (λ (count first : ℕ). words f count (a +ℤ linkTwist dx links x h) ++ walkBy words dx links h′ first 0 (pos 0) h′ n) count-is first-is
     where
-      next-first : first + (0 + length q + 1) ≡ first + length ring
-      next-first = omega (arith, held-length head (held .0) q ring (held .2))
+      count-is : size + 2 ≡ size + 1 + 1
+      count-is = omega arith
+
+      first-is : f + size + 2 ≡ f + (size + 1 + 1)
+      first-is = omega arith
+  record-walked h f size a x (y ∷ c) z h′ n l small e =
+      ap (walkBy words dx links h f size a x) (suc-add (length (y ∷ c)) n)
+      ∙ inner-record h f size a x (length (y ∷ c) + n) (lt-ltb (linkNext links x) mark (omega (arith, small y (omega (arith, uses-cons y x (y ∷ c), uses-cons y y c, ap (when 1) (eq-eqb y y refl))), next-is)))
+      ∙ ap (λ (m : ℕ). walkBy words dx links h f (suc size) (a +ℤ linkTwist dx links x m) m (length (y ∷ c) + n)) (sym next-is)
+      ∙ record-walked h f (suc size) (a +ℤ linkTwist dx links x y) y c z h′ n (subst (λ (m : ℕ). Linked (linkNext links) m (y ∷ c) z) (sym next-is) (l .1)) (λ k u. small k (omega (arith, uses-cons k x (y ∷ c)))) e
+      ∙ ap₂ (λ (count : ℕ) (s : ℤ). words f count s ++ walkBy words dx links h′ (f + count) 0 (pos 0) h′ n) count-is (+ℤ-assoc a (linkTwist dx links x y) (steps h y c))
+    where
+      next-is : y ≡ linkNext links x
+      next-is = first-of links (linkNext links x) y c z (l .1)
+
+      count-is : suc size + length (y ∷ c) + 1 ≡ size + suc (length (y ∷ c)) + 1
+      count-is = omega arith
+
+  -- the steps along a ring's links are those along its points
+  steps-spelled : (h x : ℕ) (chain : List ℕ) → steps h x chain ≡ twists (startPoint dx links x) (spelled dx links chain ++ (startPoint dx links h ∷ []))
+  unfolding steps linkTwist twists spelled startPoint
+  steps-spelled h x [] = sym (+ℤ-idr (twist (startPoint dx links x) (startPoint dx links h)))
+  steps-spelled h x (y ∷ c) = ap (λ (s : ℤ). twist (startPoint dx links x) (startPoint dx links y) +ℤ s) (steps-spelled h y c)
+
+  -- so they are its area
+  held-area : (last x : ℕ) (chain : List ℕ) (ring : Line) → HeldRing dx links x last (x ∷ chain) ring → pos 0 +ℤ steps x x chain ≡ area ring
+  unfolding spelled startPoint
+  held-area last x chain ring held =
+      +ℤ-idl (steps x x chain) ∙ steps-spelled x x chain
+      ∙ sym (ap area (held .spells) ∙ closed-area (startPoint dx links x) (spelled dx links chain ++ (startPoint dx links x ∷ [])) (last-behind (startPoint dx links x) (spelled dx links chain) (startPoint dx links x)))
+
+  -- a ring that is held
+  ring-recorded : (f last head : ℕ) (q : List ℕ) (ring : Line) (h′ n : ℕ) → HeldRing dx links head last q ring → ((k : ℕ) → 1 ≤ uses k q → k < mark) → linkNext links last ≡ mark + h′
+      → walkBy words dx links head f 0 (pos 0) head (length q + n) ≡ words f (length ring) (area ring) ++ walkBy words dx links h′ (f + length ring) 0 (pos 0) h′ n
+  ring-recorded f last head [] ring h′ n held small e = absurd (held .linked)
+  ring-recorded f last head (x ∷ c) ring h′ n held small e =
+      subst (λ (m : ℕ). HeldRing dx links m last (x ∷ c) ring → walkBy words dx links m f 0 (pos 0) m (length (x ∷ c) + n) ≡ words f (length ring) (area ring) ++ walkBy words dx links h′ (f + length ring) 0 (pos 0) h′ n)
+      (first-of links head x c last (held .linked)) from held
+    where
+      from : HeldRing dx links x last (x ∷ c) ring → walkBy words dx links x f 0 (pos 0) x (length (x ∷ c) + n) ≡ words f (length ring) (area ring) ++ walkBy words dx links h′ (f + length ring) 0 (pos 0) h′ n
+      from held =
+          record-walked x f 0 (pos 0) x c last h′ n (held .linked) small e
+          ∙ ap₂ (λ (count : ℕ) (a : ℤ). words f count a ++ walkBy words dx links h′ (f + count) 0 (pos 0) h′ n) same (held-area last x c ring held)
+        where
+          same : 0 + length (x ∷ c) + 1 ≡ length ring
+          same = omega (arith, held-length dx links x last (x ∷ c) ring held)
+
+  -- all rings
+  pub rings-recorded : (k first head : ℕ) (loops : List (List ℕ)) (rings : List Line) (tail : ℕ) → HeldRings dx links head loops rings tail → ((k : ℕ) → 1 ≤ total (uses k) loops → k < mark)
+      → walkBy words dx links head first 0 (pos 0) head (total length loops) ≡ bareBy (λ (k f : ℕ) (ring : Line) (fate : Fate). words f (length ring) (area ring)) k first rings
+  unfolding total bareBy
+  rings-recorded k first head [] [] tail held numbers = unfold walkBy in refl
+  rings-recorded k first head [] (ring ∷ rings) tail held numbers = absurd held
+  rings-recorded k first head (q ∷ []) [] tail held numbers = absurd held
+  rings-recorded k first head (q ∷ []) (ring ∷ []) tail held numbers =
+      ring-recorded first tail head q ring 0 0 (held .0) (λ m u. numbers m (omega arith)) (held .1 ∙ sym (add-zero mark))
+      ∙ ap (λ (w : List ℕ). words first (length ring) (area ring) ++ w) (unfold walkBy in refl)
+  rings-recorded k first head (q ∷ []) (ring ∷ ring′ ∷ rings) tail held numbers = absurd held
+  rings-recorded k first head (q ∷ q′ ∷ qs) [] tail held numbers = absurd held
+  rings-recorded k first head (q ∷ q′ ∷ qs) (ring ∷ []) tail held numbers = absurd held
+  rings-recorded k first head (q ∷ q′ ∷ qs) (ring ∷ ring′ ∷ rings) tail held numbers =
+      ring-recorded first (held .0) head q ring (held .1) (length q′ + total length qs) (held .2) (λ m u. numbers m (omega arith)) (held .3)
+      ∙ ap (λ (w : List ℕ). words first (length ring) (area ring) ++ w)
+      (rings-recorded (suc k) (first + length ring) (held .1) (q′ ∷ qs) (ring′ ∷ rings) tail (held .4) (λ m u. numbers m (omega arith)))
+
+-- records that go by no area
+module _ (words : ℕ → ℕ → List ℕ) (links : List ℕ) where
+  pub by-no-area : (dx dx′ h h′ first size : ℕ) (a a′ : ℤ) (k n : ℕ) → walkBy (λ f count z. words f count) dx links h first size a k n ≡ walkBy (λ f count z. words f count) dx′ links h′ first size a′ k n
+  unfolding walkBy
+  by-no-area dx dx′ h h′ first size a a′ k zero = refl
+  by-no-area dx dx′ h h′ first size a a′ k (suc n) =
+      ap₂ (cond (ltb (linkNext links k) mark))
+      (by-no-area dx dx′ h h′ first (suc size) (a +ℤ linkTwist dx links k (linkNext links k)) (a′ +ℤ linkTwist dx′ links k (linkNext links k)) (linkNext links k) n)
+      (ap (λ (w : List ℕ). words first (size + 2) ++ w)
+      (by-no-area dx dx′ (linkNext links k - mark) (linkNext links k - mark) (first + size + 2) 0 (pos 0) (pos 0) (linkNext links k - mark) n))
+
+-- records of the same words, where the numbers fit their words
+bare-same : (v w : ℕ → ℕ → Line → Fate → List ℕ) → ((k f : ℕ) (ring : Line) → f + length ring < 2 ^ 32 → v k f ring line ≡ w k f ring line)
+    → (k first : ℕ) (rings : List Line) → first + total length rings < 2 ^ 32 → bareBy v k first rings ≡ bareBy w k first rings
+unfolding bareBy total
+bare-same v w same k first [] fits = refl
+bare-same v w same k first (ring ∷ rings) fits =
+    ap₂ (λ (a b : List ℕ). a ++ b) (same k first ring (omega arith)) (bare-same v w same (suc k) (first + length ring) rings (omega arith))
+
+short-fits : (k first : ℕ) (ring : Line) → first + length ring < 2 ^ 32 → recordWords first (length ring) ≡ shortOf k first ring line
+unfolding recordWords shortOf classWord ownerWord
+short-fits k first ring fits =
+    ap₂ (λ (a b : ℕ). a ∷ b ∷ 2 ∷ noOwner ∷ []) (mod-eq-of-lt (omega arith)) (mod-eq-of-lt (omega arith))
+
+module _ (dx : ℕ) (links : List ℕ) (head : ℕ) (loops : List (List ℕ)) (rings : List Line) (tail : ℕ) (held : HeldRings dx links head loops rings tail)
+    (numbers : (k : ℕ) → 1 ≤ total (uses k) loops → k < mark) (fits : total length rings < 2 ^ 32) where
+  -- without areas
+  pub records-walked : walkRecords links 0 0 head (total length loops) ≡ bareBy shortOf 0 0 rings
+  unfolding walkRecords
+  records-walked =
+      by-no-area recordWords links 0 dx 0 head 0 0 (pos 0) (pos 0) head (total length loops)
+      ∙ rings-recorded (λ (f count : ℕ) (a : ℤ). recordWords f count) dx links 0 0 head loops rings tail held numbers
+      ∙ bare-same (λ (k f : ℕ) (ring : Line) (fate : Fate). recordWords f (length ring)) shortOf short-fits 0 0 rings (omega arith)
+
+  -- with areas
+  pub measured-walked : walkMeasured dx links head 0 0 (pos 0) head (total length loops) ≡ bareRecords 0 0 rings
+  measured-walked =
+      rings-recorded measuredWords dx links 0 0 head loops rings tail held numbers
+      ∙ bare-same (λ (k f : ℕ) (ring : Line) (fate : Fate). measuredWords f (length ring) (area ring)) recordOf
+      (λ k f ring h. unfold measuredWords recordOf in ap (λ (w : List ℕ). w ++ areaWords (area ring)) (short-fits k f ring h)) 0 0 rings (omega arith)

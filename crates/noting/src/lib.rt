@@ -2,7 +2,7 @@
 use area::AreaAnswer;
 use limits::HOLE;
 use limits::POLYGON;
-use limits::RECORD_STRIDE;
+use limits::SHORT_STRIDE;
 ghost use mathlib.Core.Path.{_≡_};
 ghost use lib.IntN.{natAbs};
 ghost use Rattle.scope.specs.Area.{area, positive};
@@ -70,7 +70,7 @@ fn note_ring(points: &[u16], directory: &mut [u32], r: usize, first: usize, by_s
     requires { ⌜ RecordNotable (now points) (now directory) r first ⌝ }
     ensures { λ count. ⌜ NotedOne (now (points .entry)) (now (directory .entry)) (now (directory .exit)) r first «by_size» count ⌝ }
 {
-    let at = RECORD_STRIDE * r;
+    let at = SHORT_STRIDE * r;
     let count = directory[at + 1] as usize;
     let note = note_at(points, first, count, by_size);
     directory[at] = first as u32;
@@ -98,7 +98,7 @@ fn put_high(points: &[u16], directory: &mut [u32], r: usize)
     requires { ⌜ RecordMeasurable (now points) (now directory) r ⌝ }
     ensures { λ _. ⌜ now (directory .exit) ≡ highPut (now (points .entry)) (now (directory .entry)) r ⌝ }
 {
-    let at = RECORD_STRIDE * r;
+    let at = SHORT_STRIDE * r;
     let first = directory[at] as usize;
     let count = directory[at + 1] as usize;
     let high = key_at(points, first, count) / 4294967296;

@@ -5,7 +5,7 @@ use extents::Ladder;
 use limits::HOLE;
 use limits::NO_OWNER;
 use limits::POLYGON;
-use limits::RECORD_STRIDE;
+use limits::SHORT_STRIDE;
 ghost use mathlib.Core.Path.{_≡_};
 ghost use Prim.Native.Nat.{_*_, _≤_, _<_};
 ghost use lib.ListN.{length, getD};
@@ -62,10 +62,10 @@ fn record_takes(
     requires { ⌜ RingsThere (now points) (now directory) n × Chunked (now points) (now table) chunks × (r < n) × (at < n) ⌝ }
     ensures { λ b. ⌜ b ≡ takes (recordRing (now (points .entry)) (now (directory .entry)) r) (recordRing (now (points .entry)) (now (directory .entry)) at) ⌝ }
 {
-    let outer_first = word(directory, RECORD_STRIDE * r);
-    let outer_count = word(directory, RECORD_STRIDE * r + 1);
-    let first = word(directory, RECORD_STRIDE * at);
-    let count = word(directory, RECORD_STRIDE * at + 1);
+    let outer_first = word(directory, SHORT_STRIDE * r);
+    let outer_count = word(directory, SHORT_STRIDE * r + 1);
+    let first = word(directory, SHORT_STRIDE * at);
+    let count = word(directory, SHORT_STRIDE * at + 1);
     taking::takes(
         points,
         outer_first,
@@ -155,7 +155,7 @@ pub fn class_all(
     let mut i = 0;
     while i < n {
         let at = rank_at(table, n, i) as usize;
-        directory[RECORD_STRIDE * at + 2] = class_of(points, directory, table, n, rings, chunks, i);
+        directory[SHORT_STRIDE * at + 2] = class_of(points, directory, table, n, rings, chunks, i);
         i += 1;
     }
 }
@@ -179,7 +179,7 @@ fn better(
         return best;
     }
     let r = rank as usize;
-    if directory[RECORD_STRIDE * r + 2] != POLYGON {
+    if directory[SHORT_STRIDE * r + 2] != POLYGON {
         return best;
     }
     if record_takes(points, directory, table, n, chunks, r, at) {
@@ -227,7 +227,7 @@ fn owner_of(
     ensures { λ o. ⌜ o ≡ ownerIn (now (points .entry)) (now (directory .entry)) n (rankOf (now (table .entry)) n number) ⌝ }
 {
     let rank = rank_at(table, n, number);
-    if directory[RECORD_STRIDE * (rank as usize) + 2] == POLYGON {
+    if directory[SHORT_STRIDE * (rank as usize) + 2] == POLYGON {
         return rank;
     }
     first_taker(points, directory, table, n, rings, chunks, number)
@@ -248,7 +248,7 @@ pub fn own_all(
     let mut i = 0;
     while i < n {
         let at = rank_at(table, n, i) as usize;
-        directory[RECORD_STRIDE * at + 3] = owner_of(points, directory, table, n, rings, chunks, i);
+        directory[SHORT_STRIDE * at + 3] = owner_of(points, directory, table, n, rings, chunks, i);
         i += 1;
     }
 }

@@ -6,11 +6,13 @@ use mathlib.Core.List.{List, _++_}
 use Prim.Native.Nat.{ℕ, zero, suc, _+_, _-_, _*_, _≤_, _<_}
 use native.Mathlib.Numerals.{add-one}
 use native.Mathlib.Omega.{arith}
+use lib.IntN.{ℤ, pos, _+ℤ_}
 use lib.ListN.{length, set}
 use lib.Seq.{sets, length-sets}
 use borrow.Author.Tests.{lt-ltb, le-ltb}
 use Rattle.machine.specs.Machine.{mark, linkNext}
-use Rattle.machine.specs.Walk.{walkWords, recordWords, walkRecords}
+use Rattle.machine.specs.Walk.{walkWords, linkTwist, walkBy, recordWords, walkRecords}
+use Rattle.machine.proofs.Walking.{by-no-area}
 use Rattle.packing.specs.Cleared.{cleared}
 use Rattle.packing.proofs.Laws.{stores-follow, cleared-none, clearing-keeps-the-length, a-table-is-cleared-whole, one-word-more}
 
@@ -82,55 +84,68 @@ module _ {Word : Type 0} {words : ℕ → List Word} {links : List ℕ} {start :
 
 -- ---- the directory
 
-module _ (links : List ℕ) (first size k : ℕ) where
-  records-along : (left : ℕ) → 0 < left → linkNext links k < mark →
-      walkRecords links first size k left ≡ walkRecords links first (suc size) (linkNext links k) (left - 1)
-  unfolding walkRecords
-  records-along zero more h = absurd (omega arith)
-  records-along (suc n) more h = let fewer : suc n - 1 ≡ n = omega arith in rw (lt-ltb _ _ h, fewer)
+-- words gives a record, of as many words as each says
+module _ (words : ℕ → ℕ → ℤ → List ℕ) (each : ℕ) (dx : ℕ) (links : List ℕ) where
+  module _ (h first size : ℕ) (a : ℤ) (k : ℕ) where
+    records-along : (left : ℕ) → 0 < left → linkNext links k < mark →
+        walkBy words dx links h first size a k left ≡ walkBy words dx links h first (suc size) (a +ℤ linkTwist dx links k (linkNext links k)) (linkNext links k) (left - 1)
+    unfolding walkBy
+    records-along zero more low = absurd (omega arith)
+    records-along (suc n) more low = let fewer : suc n - 1 ≡ n = omega arith in rw (lt-ltb _ _ low, fewer)
 
-  records-around : (left : ℕ) → 0 < left → mark ≤ linkNext links k →
-      walkRecords links first size k left ≡ recordWords first (size + 2) ++ walkRecords links (first + size + 2) 0 (linkNext links k - mark) (left - 1)
-  unfolding walkRecords
-  records-around zero more h = absurd (omega arith)
-  records-around (suc n) more h = let fewer : suc n - 1 ≡ n = omega arith in rw (le-ltb _ _ h, fewer)
+    records-around : (left : ℕ) → 0 < left → mark ≤ linkNext links k →
+        walkBy words dx links h first size a k left
+        ≡ words first (size + 2) (a +ℤ linkTwist dx links k h) ++ walkBy words dx links (linkNext links k - mark) (first + size + 2) 0 (pos 0) (linkNext links k - mark) (left - 1)
+    unfolding walkBy
+    records-around zero more high = absurd (omega arith)
+    records-around (suc n) more high = let fewer : suc n - 1 ≡ n = omega arith in rw (le-ltb _ _ high, fewer)
 
--- the ring's first point has number first and it has had size links; left links are to be walked, from link k on, and their records go to word at and on
-pub record RecordsLeft (links start : List ℕ) (head count : ℕ) (directory : List ℕ) (first size k at left : ℕ) : Type 0 where
-  pub room : at + 4 * left ≤ 4 * count
-  pub few : first + size + 2 * left ≤ 2 * count
-  pub so-far : Stored start (walkRecords links 0 0 head count) at directory (walkRecords links first size k left)
+  -- the ring began at link h, its first point has number first, and it has had size links and the area a; left links are to be walked, from link k on, and
+  -- their records go to word at and on
+  pub record RecordsLeft (start : List ℕ) (head count : ℕ) (directory : List ℕ) (h first size : ℕ) (a : ℤ) (k at left : ℕ) : Type 0 where
+    pub room : at + 6 * left ≤ 6 * count
+    pub few : first + size + 2 * left ≤ 2 * count
+    pub so-far : Stored start (walkBy words dx links head 0 0 (pos 0) head count) at directory (walkBy words dx links h first size a k left)
 
-pub records-begin : (links start : List ℕ) (head count : ℕ) → RecordsLeft links start head count start 0 0 head 0 count
-records-begin links start head count = record { room = omega arith; few = omega arith; so-far = record { leaves = refl } }
+  pub records-begin : (start : List ℕ) (head count : ℕ) → RecordsLeft start head count start head 0 0 (pos 0) head 0 count
+  records-begin start head count = record { room = omega arith; few = omega arith; so-far = record { leaves = refl } }
 
-module _ {links start : List ℕ} {head count : ℕ} {directory : List ℕ} {first size k at left : ℕ} (s : RecordsLeft links start head count directory first size k at left) where
-  pub records-end : left ≤ 0 → directory ≡ sets start 0 (walkRecords links 0 0 head count)
-  unfolding walkRecords
-  records-end h = let none : left ≡ 0 = omega arith in sym (rw none at (s .so-far .leaves))
+module _ {words : ℕ → ℕ → ℤ → List ℕ} {each : ℕ} {dx : ℕ} {links start : List ℕ} {head count : ℕ} {directory : List ℕ} {h first size : ℕ} {a : ℤ} {k at left : ℕ}
+    (s : RecordsLeft words each dx links start head count directory h first size a k at left) where
+  pub records-end : left ≤ 0 → directory ≡ sets start 0 (walkBy words dx links head 0 0 (pos 0) head count)
+  unfolding walkBy
+  records-end done = let none : left ≡ 0 = omega arith in sym (rw none at (s .so-far .leaves))
 
   -- a link that is not the last of its ring
   pub records-next : {next : ℕ} → 0 < left → next ≡ linkNext links k → next < mark →
-      RecordsLeft links start head count directory first (size + 1) next at (left - 1)
-  records-next {next} more f h =
+      RecordsLeft words each dx links start head count directory h first (size + 1) (a +ℤ linkTwist dx links k next) next at (left - 1)
+  records-next {next} more f low =
       record {
         room = omega arith;
         few = omega arith;
-        so-far = record { leaves = s .so-far .leaves ∙ rw (records-along links first size k left more (rw f at h), f, add-one) };
+        so-far = record { leaves = s .so-far .leaves ∙ rw (records-along words each dx links h first size a k left more (rw f at low), f, add-one) };
       }
 
   -- the last link of its ring
-  pub records-closed : {directory′ : List ℕ} {next : ℕ} → 0 < left → next ≡ linkNext links k → mark ≤ next →
-      directory′ ≡ sets directory at (recordWords first (size + 2)) →
-      RecordsLeft links start head count directory′ (first + (size + 2)) 0 (next - mark) (at + 4) (left - 1)
-  unfolding recordWords
-  records-closed {directory′} {next} more f h g =
+  pub records-closed : {directory′ : List ℕ} {next : ℕ} → each ≤ 6 → ((f count : ℕ) (z : ℤ) → length (words f count z) ≡ each) → 0 < left → next ≡ linkNext links k → mark ≤ next →
+      directory′ ≡ sets directory at (words first (size + 2) (a +ℤ linkTwist dx links k h)) →
+      RecordsLeft words each dx links start head count directory′ (next - mark) (first + (size + 2)) 0 (pos 0) (next - mark) (at + each) (left - 1)
+  records-closed {directory′} {next} most has more f high g =
       let sum : first + (size + 2) ≡ first + size + 2 = omega arith in
+      let w = words first (size + 2) (a +ℤ linkTwist dx links k h) in
       record {
         room = omega arith;
         few = omega arith;
-        so-far = rw (f, sum) (stored-next (s .so-far) (recordWords first (size + 2)) _ directory′ 4 refl (records-around links first size k left more (rw f at h)) g);
+        so-far = rw (f, sum) (stored-next (s .so-far) w _ directory′ each (has first (size + 2) (a +ℤ linkTwist dx links k h)) (records-around words each dx links h first size a k left more (rw f at high)) g);
       }
+
+-- records without areas
+abbrev pub shortWords : ℕ → ℕ → ℤ → List ℕ
+shortWords first count a = recordWords first count
+
+pub short-end : (links start : List ℕ) {directory : List ℕ} (head count : ℕ) → directory ≡ sets start 0 (walkBy shortWords 0 links head 0 0 (pos 0) head count) → directory ≡ sets start 0 (walkRecords links 0 0 head count)
+unfolding walkRecords
+short-end links start head count e = e ∙ ap (sets start 0) (by-no-area recordWords links 0 0 head 0 0 0 (pos 0) (pos 0) head count)
 
 -- ---- clearing
 

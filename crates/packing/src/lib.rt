@@ -5,7 +5,7 @@ use lent::put;
 use lent::word;
 use limits::LINE;
 use limits::NO_OWNER;
-use limits::RECORD_STRIDE;
+use limits::SHORT_STRIDE;
 ghost use mathlib.Core.Path.{_≡_};
 ghost use Prim.Native.Nat.{_%_, _^_};
 ghost use lib.ListN.{set};
@@ -57,7 +57,8 @@ fn put_point(links: &[u32], dx: u32, k: u32, points: &mut [u16], at: usize)
     put_index(points, dx, word(links, 2 * (k as usize)), at);
 }
 
-// Stores the record of a ring as four words, from word `at` on: the number of its first point, how many points it has, its class, and no owner.
+// Stores the record of a ring without its area as four words, from word `at` on: the number of its first point, how many points it has, its class, and no
+// owner.
 pub fn put_record(directory: &mut [u32], at: usize, first: u64, count: u64)
     ensures { λ _. ⌜ now (directory .exit) ≡ sets (now (directory .entry)) at (recordWords first count) ⌝ }
 {
@@ -70,8 +71,8 @@ pub fn put_record(directory: &mut [u32], at: usize, first: u64, count: u64)
 }
 
 // Walks `count` links from link `head` on. The points of the rings are stored one after the other from word 0 on, two words a point: a point for each link,
-// and at a ring's end its first point again. There the ring's record is stored too, one record after the other from word 0 on, four words a record. Past the
-// end of a table nothing is stored.
+// and at a ring's end its first point again. There the ring's record is stored too, without its area, one record after the other from word 0 on, four words a
+// record. Past the end of a table nothing is stored.
 pub fn write_rings(
     links: &[u32],
     dx: u32,
@@ -103,7 +104,7 @@ pub fn write_rings(
             at += 2;
             let ring_points = size + 2;
             put_record(directory, record_at, first_point, ring_points);
-            record_at += RECORD_STRIDE;
+            record_at += SHORT_STRIDE;
             first_point += ring_points;
             size = 0;
             k = next - MARK;

@@ -9,11 +9,12 @@ use lib.ListN.{length, getD, length-append}
 use borrow.Author.Tests.{le-ltb, lt-ltb, eq-eqb}
 use Rattle.scope.specs.Limits.{coordinateLimit, pointLimit, recordStride, noOwner}
 use Rattle.scope.specs.Stitching.{Line}
+use Rattle.scope.specs.Area.{area, lowWord, highWord}
 use Rattle.scope.specs.Room.{directoryWords}
 use Rattle.scope.specs.Contour.{Fate, polygon, hole, dropped, line, classWord, ownerWord}
 use Rattle.scope.specs.Band.{Numbered}
 use Rattle.scope.specs.Tables.{packedPoints, orderedRecords}
-use Rattle.scope.specs.GeoJson.{classAt, ownerAt, ringAt, directoryShort, rangeOutside, countOut, coordinateOver, unclosed, classOut, isPolygon, isHole, ownedByAnother, ownedByNone, recordRefused, anyBelow, ringSetRefused}
+use Rattle.scope.specs.GeoJson.{classAt, ownerAt, ringAt, directoryShort, rangeOutside, countOut, coordinateOver, unclosed, areaOff, classOut, isPolygon, isHole, ownedByAnother, ownedByNone, recordRefused, anyBelow, ringSetRefused}
 use Rattle.laws.proofs.Conservation.{Each}
 use Rattle.readable.proofs.Packed.{Fit, none-above, closed-passes}
 use Rattle.readable.proofs.Orders.{nobody, Among, OrderOf, each-at}
@@ -57,11 +58,16 @@ module _ {all : List Line} {directory : List ℕ} {k : ℕ} {m : Numbered} {fate
   ends-pass : unclosed (ringAt (packedPoints all ++ past) directory k) ≡ false
   ends-pass = ap unclosed (ring-found r among past) ∙ closed-passes (m .ring) (fit .is-closed)
 
+  area-passes : areaOff (packedPoints all ++ past) directory k ≡ false
+  unfolding areaOff
+  area-passes =
+      rw (r .area-low-is, r .area-high-is, ring-found r among past, eq-eqb (lowWord (area (m .ring))) _ refl, eq-eqb (highWord (area (m .ring))) _ refl)
+
   record-passes : (rings : ℕ) → OwnedBy (PolygonAt directory rings) fate → recordRefused (packedPoints all ++ past) directory rings k ≡ false
   unfolding recordRefused
   record-passes rings owned =
       let p = fate-passes directory rings k fate (r .class-is) (r .owner-is) owned in
-      rw (range-passes, count-passes, coordinates-pass, ends-pass, p .class, p .another, p .none)
+      rw (range-passes, count-passes, coordinates-pass, ends-pass, area-passes, p .class, p .another, p .none)
 
 -- ---- all of them
 

@@ -42,7 +42,7 @@ module _ (ps directory : List ℕ) (rings : ℕ) (set : Sound ps directory rings
   module _ (k : ℕ) (h : k < rings) where
     word-same : (j : ℕ) → j < 4 → getD (directory ++ pd) (recordStride * k + j) 0 ≡ getD directory (recordStride * k + j) 0
     unfolding recordStride
-    word-same j few = List·getD-append directory pd 0 (4 * k + j) (omega (arith, set .long))
+    word-same j few = List·getD-append directory pd 0 (recordStride * k + j) (omega (arith, set .long))
 
     first-same : firstAt (directory ++ pd) k ≡ firstAt directory k
     unfolding firstAt

@@ -10,12 +10,12 @@ use lib.ListN.{length, getD, length-map}
 use lib.Seq.{getD-append-add}
 use Rattle.scope.specs.Cells.{Point}
 use Rattle.scope.specs.Stitching.{Line}
-use Rattle.scope.specs.Area.{area, positive}
+use Rattle.scope.specs.Area.{area, positive, lowWord, highWord}
 use Rattle.scope.specs.Contour.{line, classWord, ownerWord, contourClasses, contourFates}
 use Rattle.scope.specs.Band.{Numbered, numberedFrom}
 use Rattle.scope.specs.Smoothing.{Vertex}
 use Rattle.scope.specs.Tables.{firstPoint, packedPoints, contourRecords, vertexWords, packedVertices}
-use Rattle.scope.specs.GeoJson.{firstAt, countAt, classAt, ownerAt, ringAt}
+use Rattle.scope.specs.GeoJson.{firstAt, countAt, classAt, ownerAt, areaLowAt, areaHighAt, ringAt}
 use Rattle.readable.proofs.Orders.{nobody, Among, each-at, by-number}
 use Rattle.readable.proofs.Fates.{fates-length}
 use Rattle.readable.proofs.Records.{recorded, ring-found}
@@ -36,6 +36,8 @@ pub record ContourRecord (rings : List Line) (points directory : List ℕ) (k : 
   pub count-is : countAt directory k ≡ length (getD rings k [])
   pub class-is : classAt directory k ≡ classWord (getD (contourFates rings) k line)
   pub owner-is : ownerAt directory k ≡ ownerWord k (getD (contourFates rings) k line)
+  pub area-low-is : areaLowAt directory k ≡ lowWord (area (getD rings k []))
+  pub area-high-is : areaHighAt directory k ≡ highWord (area (getD rings k []))
   pub ring-is : ringAt points directory k ≡ getD rings k []
 
 pub contour-record : (rings : List Line) (pp pd : List ℕ) (k : ℕ) → k < length rings → ContourRecord rings (packedPoints rings ++ pp) (contourRecords rings ++ pd) k
@@ -52,6 +54,8 @@ contour-record rings pp pd k h =
       count-is = r .count-is ∙ ap (λ (m : Numbered). length (m .ring)) numbered;
       class-is = r .class-is;
       owner-is = r .owner-is;
+      area-low-is = r .area-low-is ∙ ap (λ (m : Numbered). lowWord (area (m .ring))) numbered;
+      area-high-is = r .area-high-is ∙ ap (λ (m : Numbered). highWord (area (m .ring))) numbered;
       ring-is = ring-found r among pp ∙ ap (λ (m : Numbered). m .ring) numbered;
     }
 

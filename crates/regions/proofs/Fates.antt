@@ -12,7 +12,7 @@ use Rattle.scope.specs.Stitching.{Line}
 use Rattle.scope.specs.Area.{area, positive}
 use Rattle.scope.specs.Contour.{Fate, polygon, hole, line, classWord, ownerWord, takes, ownerFrom, fatesBy, contourClasses}
 use Rattle.scope.specs.Band.{Numbered, takers, classesFrom}
-use Rattle.scope.specs.Tables.{firstPoint, recordOf, orderedRecords}
+use Rattle.scope.specs.Tables.{firstPoint, shortOf, orderedBy}
 use Rattle.sorting.specs.Entries.{Entry, entryWords}
 use Rattle.regions.proofs.Listing.{past, map-at}
 use Rattle.regions.proofs.Orders.{nobody}
@@ -92,12 +92,12 @@ module _ (all : List Line) where
   recordEntries k (m ∷ ms) [] = []
   recordEntries k (m ∷ ms) (fate ∷ fates) = recordEntry k m fate ∷ recordEntries (suc k) ms fates
 
-  pub records-as-words : (k : ℕ) (order : List Numbered) (fates : List Fate) → orderedRecords all k order fates ≡ entryWords (recordEntries k order fates)
-  unfolding orderedRecords recordEntries entryWords recordOf
+  pub records-as-words : (k : ℕ) (order : List Numbered) (fates : List Fate) → orderedBy shortOf all k order fates ≡ entryWords (recordEntries k order fates)
+  unfolding orderedBy recordEntries entryWords shortOf
   records-as-words k [] fates = refl
   records-as-words k (m ∷ ms) [] = refl
   records-as-words k (m ∷ ms) (fate ∷ fates) =
-      ap (λ (ws : List ℕ). recordOf k (firstPoint all (m .number)) (m .ring) fate ++ ws) (records-as-words (suc k) ms fates)
+      ap (λ (ws : List ℕ). shortOf k (firstPoint all (m .number)) (m .ring) fate ++ ws) (records-as-words (suc k) ms fates)
 
   pub records-as-many : (k : ℕ) (order : List Numbered) (fates : List Fate) → length fates ≡ length order → length (recordEntries k order fates) ≡ length order
   unfolding recordEntries

@@ -10,13 +10,13 @@ use lib.ListN.{length, getD}
 use Rattle.scope.specs.Stitching.{Line}
 use Rattle.scope.specs.Contour.{Fate, line, classWord, ownerWord, ownerFrom, fatesBy, contourClasses, contourFates}
 use Rattle.scope.specs.Band.{Numbered, numberedFrom, sortKey, sorted, orderRings, classesFrom, bandFates}
-use Rattle.scope.specs.Tables.{firstPoint, orderedRecords, contourRecords, written}
+use Rattle.scope.specs.Tables.{firstPoint, shortOf, orderedBy, written}
 use Rattle.sorting.specs.Entries.{Entry}
 use Rattle.sorting.proofs.TwoPasses.{sortBy, sorted-is-by, two-passes}
 use Rattle.extents.specs.Records.{recordFirst, recordCount, recordClass, recordNumber, recordClasses}
 use Rattle.noting.specs.Noted.{startOf, countedRing, noteOf, Noted, HighNoted}
 use Rattle.owners.specs.Owned.{Classed, classIn, Owned, ownerIn}
-use Rattle.regions.specs.Regions.{countedRings, sortedFirst}
+use Rattle.regions.specs.Regions.{countedRings, sortedFirst, contourBy}
 use Rattle.regions.proofs.Listing.{listed, listed-is}
 use Rattle.regions.proofs.Orders.{nobody, Among, among-at, ring-length, first-at, rings-numbered, rings-counted}
 use Rattle.regions.proofs.Entries.{Holds, words-written}
@@ -117,7 +117,7 @@ module _ {points start : List ℕ} {n : ℕ} {order : List Numbered} {directory 
       })
 
   -- the directory once owners are found
-  pub records-written : directory′ ≡ written (orderedRecords (countedRings points start 0 n) 0 order (fatesBy classes (orderRings order) classes (orderRings order))) start
+  pub records-written : directory′ ≡ written (orderedBy shortOf (countedRings points start 0 n) 0 order (fatesBy classes (orderRings order) classes (orderRings order))) start
   unfolding all fates rings
   records-written =
       let room : 4 * length (recordEntries all 0 order fates) ≤ length directory′ = omega (arith, records-many, a .as-long, a .records-there, owned .as-long) in
@@ -137,8 +137,8 @@ module _ {points start noted : List ℕ} {n : ℕ} (there : 4 * n ≤ length sta
       let within : r < length (countedRings points start 0 n) = subst (λ (k : ℕ). r < k) (sym (rings-counted points start 0 n)) h in
       noted-notes there n₁ r h ∙ rw (counted-ring r, contour-class-at (countedRings points start 0 n) r within)
 
-  pub contour-written : {owned : List ℕ} → Owned points noted owned n → owned ≡ written (contourRecords (countedRings points start 0 n)) start
-  unfolding contourRecords contourFates
+  pub contour-written : {owned : List ℕ} → Owned points noted owned n → owned ≡ written (contourBy shortOf (countedRings points start 0 n)) start
+  unfolding contourBy contourFates
   contour-written n₂ =
       let as-many = contour-classes-as-many (countedRings points start 0 n) ∙ rings-counted points start 0 n in
       rw (rings-numbered 0 (countedRings points start 0 n)) at
@@ -158,7 +158,7 @@ module _ {points start : List ℕ} {n : ℕ} {order : List Numbered} {filed clas
         ← band-class-at (orderRings order) (orderRings order) r (subst (λ (k : ℕ). r < k) (sym (rings-as-many order ∙ a .order-of .as-many)) h),
       )
 
-  pub band-written : {owned : List ℕ} → Owned points classed owned n → owned ≡ written (orderedRecords (countedRings points start 0 n) 0 order (bandFates (orderRings order))) start
+  pub band-written : {owned : List ℕ} → Owned points classed owned n → owned ≡ written (orderedBy shortOf (countedRings points start 0 n) 0 order (bandFates (orderRings order))) start
   unfolding bandFates
   band-written n₂ =
       records-written

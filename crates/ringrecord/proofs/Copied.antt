@@ -8,18 +8,20 @@ use native.Mathlib.Nat.{add-zero, zero-add}
 use native.Mathlib.Numerals.{add-one}
 use native.Mathlib.Omega.{arith}
 use lib.Dec.{ltb, eqb}
+use lib.IntN.{pos}
 use lib.ListN.{length, getD, set, take, drop, length-append, length-drop}
 use lib.Seq.{drop-cons, set-at, take-at, sets, sets-eq, length-take-le, take-suc, take-add, drop-drop, drop-append-add}
 use borrow.Author.Tests.{ltb-true, ltb-false, le-ltb, eq-eqb, ne-eqb}
 use Rattle.scope.specs.Limits.{recordStride}
+use Rattle.scope.specs.Area.{areaWords}
 use Rattle.scope.specs.Room.{directoryWords}
 use Rattle.scope.specs.Tables.{written}
-use Rattle.scope.specs.GeoJson.{firstAt, countAt, classAt, ownerAt}
+use Rattle.scope.specs.GeoJson.{firstAt, countAt, classAt, ownerAt, areaLowAt, areaHighAt}
 use Rattle.ringrecord.specs.declared.Fate.the-variants.{Dropped}
 use Rattle.ringrecord.specs.declared.RingRecord.{RingRecord}
 use Rattle.ringrecord.specs.Records.{wordsOf, directoryFrom, directoryOf, recordFrom, recordsFrom, recordIn}
 use Rattle.ringrecord.specs.Copies.{roomFor, copiedRings, recordsAfter, wordsFrom, wordsAfter}
-use Rattle.ringrecord.proofs.Laws.{as-many-words, as-many-records, records-append, Kept, first-words-come-back}
+use Rattle.ringrecord.proofs.Laws.{as-many-words, as-many-records, records-append, KeptAt, first-words-come-back}
 
 -- ---- how many are copied
 
@@ -61,21 +63,28 @@ fewer-records-fewer-words i n h = omega arith
 
 -- ---- from words to records
 
--- four words are a record
-one-record : (first count class owner : ℕ) → recordsFrom (first ∷ count ∷ class ∷ owner ∷ []) ≡ recordFrom first count class owner ∷ []
+-- six words are a record
+one-record : (first count class owner low high : ℕ) → recordsFrom (first ∷ count ∷ class ∷ owner ∷ low ∷ high ∷ []) ≡ recordFrom first count class owner low high ∷ []
 unfolding recordsFrom
-one-record first count class owner = refl
+one-record first count class owner low high = refl
 
--- the four words from a word on
-four-there : (words : List ℕ) (at : ℕ) → at + 4 ≤ length words →
-    drop at words ≡ getD words at 0 ∷ getD words (at + 1) 0 ∷ getD words (at + 2) 0 ∷ getD words (at + 3) 0 ∷ drop (at + 4) words
-four-there words at h =
+-- two words from a word on
+two-there : (words : List ℕ) (at : ℕ) → at + 2 ≤ length words → drop at words ≡ getD words at 0 ∷ getD words (at + 1) 0 ∷ drop (at + 2) words
+two-there words at h =
     let second : at + 1 ≡ suc at = omega arith in
-    let third : at + 2 ≡ suc (suc at) = omega arith in
-    let fourth : at + 3 ≡ suc (suc (suc at)) = omega arith in
-    let behind : at + 4 ≡ suc (suc (suc (suc at))) = omega arith in
-    drop-cons words at 0 (omega arith)
-    ∙ rw (drop-cons words (suc at) 0 (omega arith), drop-cons words (suc (suc at)) 0 (omega arith), drop-cons words (suc (suc (suc at))) 0 (omega arith), second, third, fourth, behind)
+    let behind : at + 2 ≡ suc (suc at) = omega arith in
+    drop-cons words at 0 (omega arith) ∙ rw (drop-cons words (suc at) 0 (omega arith), second, behind)
+
+-- the six words from a word on
+six-there : (words : List ℕ) (at : ℕ) → at + 6 ≤ length words →
+    drop at words
+    ≡ getD words at 0 ∷ getD words (at + 1) 0 ∷ getD words (at + 2) 0 ∷ getD words (at + 3) 0 ∷ getD words (at + 4) 0 ∷ getD words (at + 5) 0 ∷ drop (at + 6) words
+six-there words at h =
+    let fourth : at + 3 ≡ at + 2 + 1 = omega arith in
+    let fifth : at + 4 ≡ at + 2 + 2 = omega arith in
+    let sixth : at + 5 ≡ at + 2 + 2 + 1 = omega arith in
+    let behind : at + 6 ≡ at + 2 + 2 + 2 = omega arith in
+    two-there words at (omega arith) ∙ rw (two-there words (at + 2) (omega arith), two-there words (at + 2 + 2) (omega arith), fourth, fifth, sixth, behind)
 
 module _ (words : List ℕ) where
   -- the records after i turns
@@ -103,12 +112,12 @@ module _ (words : List ℕ) where
     unfolding directoryWords recordStride
     fewer = omega arith
 
-    -- four words more are a record more
+    -- six words more are a record more
     one-more : recordsFrom (take (directoryWords (i + 1)) words) ≡ recordsFrom (take (directoryWords i) words) ++ (recordIn words i ∷ [])
-    unfolding recordIn firstAt countAt classAt ownerAt directoryWords recordStride
+    unfolding recordIn firstAt countAt classAt ownerAt areaLowAt areaHighAt directoryWords recordStride
     one-more =
-        let more : 4 * (i + 1) ≡ 4 * i + 4 = omega arith in
-        rw (more, take-add (4 * i) 4 words, records-append i (take (4 * i) words) (take 4 (drop (4 * i) words)) (length-take-le (4 * i) words (omega arith)), four-there words (4 * i) (omega arith), one-record)
+        let more : 6 * (i + 1) ≡ 6 * i + 6 = omega arith in
+        rw (more, take-add (6 * i) 6 words, records-append i (take (6 * i) words) (take 6 (drop (6 * i) words)) (length-take-le (6 * i) words (omega arith)), six-there words (6 * i) (omega arith), one-record)
 
     pub next-record : (records : List RingRecord) → i < length records → set (recordsTo i records) i (recordIn words i) ≡ recordsTo (i + 1) records
     unfolding recordsTo
@@ -126,13 +135,13 @@ directory-append k (r ∷ rs) ss =
     let e : k + suc (length rs) ≡ suc k + length rs = omega arith in
     rw (directory-append (suc k) rs ss, e, append-assoc)
 
-four-words : (k : ℕ) (r : RingRecord) → length (wordsOf k r) ≡ 4
-unfolding wordsOf
-four-words k r = refl
+six-words : (k : ℕ) (r : RingRecord) → length (wordsOf k r) ≡ 6
+unfolding wordsOf areaWords
+six-words k r = refl
 
 -- past the end, a dropped hole of no points
 abbrev pub nowhere : RingRecord
-nowhere = record { first = 0; count = 0; fate = Dropped }
+nowhere = record { first = 0; count = 0; fate = Dropped; area = pos 0 }
 
 module _ (records : List RingRecord) where
   -- the words after i turns
@@ -165,19 +174,19 @@ module _ (records : List RingRecord) where
     pub next-words : (words : List ℕ) → directoryWords (i + 1) ≤ length words → sets (wordsTo i words) (directoryWords i) (wordsOf i (getD records i nowhere)) ≡ wordsTo (i + 1) words
     unfolding wordsTo directoryWords recordStride
     next-words words h =
-        sets-eq (wordsOf i (getD records i nowhere)) (directoryOf (take i records) ++ drop (4 * i) words) (4 * i) long
-        ∙ rw (take-at (directoryOf (take i records)) (drop (4 * i) words) (4 * i) front, behind, one-more-words, append-assoc)
+        sets-eq (wordsOf i (getD records i nowhere)) (directoryOf (take i records) ++ drop (6 * i) words) (6 * i) long
+        ∙ rw (take-at (directoryOf (take i records)) (drop (6 * i) words) (6 * i) front, behind, one-more-words, append-assoc)
       where
-        front : length (directoryOf (take i records)) ≡ 4 * i
+        front : length (directoryOf (take i records)) ≡ 6 * i
         front = front-length i (omega (arith, there))
 
-        long : 4 * i + length (wordsOf i (getD records i nowhere)) ≤ length (directoryOf (take i records) ++ drop (4 * i) words)
-        long = rw (length-append, front, four-words, length-drop) (omega arith)
+        long : 6 * i + length (wordsOf i (getD records i nowhere)) ≤ length (directoryOf (take i records) ++ drop (6 * i) words)
+        long = rw (length-append, front, six-words, length-drop) (omega arith)
 
-        behind : drop (4 * i + length (wordsOf i (getD records i nowhere))) (directoryOf (take i records) ++ drop (4 * i) words) ≡ drop (4 * (i + 1)) words
+        behind : drop (6 * i + length (wordsOf i (getD records i nowhere))) (directoryOf (take i records) ++ drop (6 * i) words) ≡ drop (6 * (i + 1)) words
         behind =
-            let e : 4 * (i + 1) ≡ 4 * i + 4 = omega arith in
-            rw (four-words, e) (rw front at (drop-append-add (directoryOf (take i records)) (drop (4 * i) words) 4) ∙ drop-drop 4 (4 * i) words)
+            let e : 6 * (i + 1) ≡ 6 * i + 6 = omega arith in
+            rw (six-words, e) (rw front at (drop-append-add (directoryOf (take i records)) (drop (6 * i) words) 6) ∙ drop-drop 6 (6 * i) words)
 
 -- ---- where the loops have gone n turns
 
@@ -219,7 +228,7 @@ module _ (words : List ℕ) (records : List RingRecord) (rings : ℕ) (long : di
 
 -- words that are copied out into records, and from there into other words, come back
 pub words-copied-out-and-in : (words words′ : List ℕ) (records : List RingRecord) (rings : ℕ) → directoryWords rings ≤ length words → directoryWords rings ≤ length words′ → rings ≤ length records →
-    ((i : ℕ) → i < rings → Kept i (classAt words i) (ownerAt words i)) →
+    ((i : ℕ) → i < rings → KeptAt i words i) →
     take (directoryWords rings) (wordsAfter rings (recordsAfter rings words records) words′) ≡ take (directoryWords rings) words
 words-copied-out-and-in words words′ records rings long long′ enough-there kept =
     first-words-copied words′ (recordsAfter rings words records) rings long′ (rw (records-after-length words records rings) enough-there)

@@ -1,42 +1,48 @@
--- What follows of records and of the words that they stand for, by induction on the records or on four words at a time: lengths, and what comes back
+-- What follows of records and of the words that they stand for, by induction on the records or on six words at a time: lengths, and what comes back
 -- of words and of records. Assumes nothing.
 use mathlib.Core.Path.{_≡_, refl, ap}
 use mathlib.Core.Bool.{Bool, true, false, cond}
 use mathlib.Core.List.{List, [], _∷_, _++_}
-use Prim.Native.Nat.{ℕ, zero, suc, _+_, _*_, _≤_, _<_}
+use Prim.Native.Nat.{ℕ, zero, suc, _+_, _*_, _^_, _≤_, _<_}
 use native.Mathlib.Nat.{zero-add, add-zero}
 use native.Mathlib.Omega.{arith}
 use lib.Dec.{eqb}
 use lib.ListN.{length, getD, take}
 use lib.Seq.{length-take-le, getD-take}
 use borrow.Author.Tests.{eqb-true, eqb-false, ne-eqb}
+use mir.Syntax.{w64}
+use mir.Val.{SFits}
 use Rattle.scope.specs.Limits.{recordStride, noOwner}
 use Rattle.scope.specs.Room.{directoryWords}
+use Rattle.scope.specs.Area.{area, lowWord, highWord, areaWords}
 use Rattle.scope.specs.Contour.{classWord, ownerWord}
-use Rattle.scope.specs.GeoJson.{classAt, ownerAt, ringSetRefused}
+use Rattle.scope.specs.GeoJson.{classAt, ownerAt, areaLowAt, areaHighAt, ringAt, ringSetRefused}
 use Rattle.ringset.proofs.Laws.{SoundRecord, sound}
 use Rattle.ringrecord.specs.declared.Fate.{Fate}
 use Rattle.ringrecord.specs.declared.Fate.the-variants as fate-is
 use Rattle.ringrecord.specs.declared.RingRecord.{RingRecord}
 use Rattle.ringrecord.specs.Records.{fateOf, wordsOf, directoryFrom, directoryOf, fateFrom, recordFrom, recordsFrom}
+use Rattle.ringrecord.proofs.Areas.{low-fits, high-fits, area-comes-back, area-words-come-back}
 
 -- ---- lengths
 
--- four words a record
+-- six words a record
 pub as-many-words : (k : ℕ) (rs : List RingRecord) → length (directoryFrom k rs) ≡ directoryWords (length rs)
-unfolding directoryFrom wordsOf directoryWords recordStride
+unfolding directoryFrom wordsOf areaWords directoryWords recordStride
 as-many-words k [] = refl
 as-many-words k (r ∷ rs) = omega (arith, as-many-words (suc k) rs)
 
--- a record for each four words
+-- a record for each six words
 pub as-many-records : (n : ℕ) (ws : List ℕ) → length ws ≡ directoryWords n → length (recordsFrom ws) ≡ n
 unfolding recordsFrom directoryWords recordStride
 as-many-records n [] h = omega arith
 as-many-records n (a ∷ []) h = omega arith
 as-many-records n (a ∷ b ∷ []) h = omega arith
 as-many-records n (a ∷ b ∷ c ∷ []) h = omega arith
-as-many-records zero (a ∷ b ∷ c ∷ d ∷ ws) h = omega arith
-as-many-records (suc n) (a ∷ b ∷ c ∷ d ∷ ws) h = ap suc (as-many-records n ws (omega arith))
+as-many-records n (a ∷ b ∷ c ∷ d ∷ []) h = omega arith
+as-many-records n (a ∷ b ∷ c ∷ d ∷ l ∷ []) h = omega arith
+as-many-records zero (a ∷ b ∷ c ∷ d ∷ l ∷ u ∷ ws) h = omega arith
+as-many-records (suc n) (a ∷ b ∷ c ∷ d ∷ l ∷ u ∷ ws) h = ap suc (as-many-records n ws (omega arith))
 
 -- ---- records one after the other
 
@@ -47,50 +53,69 @@ records-append m [] ys h = refl
 records-append m (a ∷ []) ys h = absurd (omega arith)
 records-append m (a ∷ b ∷ []) ys h = absurd (omega arith)
 records-append m (a ∷ b ∷ c ∷ []) ys h = absurd (omega arith)
-records-append zero (a ∷ b ∷ c ∷ d ∷ xs) ys h = absurd (omega arith)
-records-append (suc m) (a ∷ b ∷ c ∷ d ∷ xs) ys h = rw (records-append m xs ys (omega arith))
+records-append m (a ∷ b ∷ c ∷ d ∷ []) ys h = absurd (omega arith)
+records-append m (a ∷ b ∷ c ∷ d ∷ l ∷ []) ys h = absurd (omega arith)
+records-append zero (a ∷ b ∷ c ∷ d ∷ l ∷ u ∷ xs) ys h = absurd (omega arith)
+records-append (suc m) (a ∷ b ∷ c ∷ d ∷ l ∷ u ∷ xs) ys h = rw (records-append m xs ys (omega arith))
 
 -- ---- words that come back
 
 -- class and owner words that the record of number k holds as they are
-pub data Kept (k class owner : ℕ) : Type 0 where
-  a-polygon : class ≡ 0 → owner ≡ k → Kept k class owner
-  a-hole : class ≡ 1 → Kept k class owner
-  a-line : class ≡ 2 → owner ≡ noOwner → Kept k class owner
+pub data FateKept (k class owner : ℕ) : Type 0 where
+  a-polygon : class ≡ 0 → owner ≡ k → FateKept k class owner
+  a-hole : class ≡ 1 → FateKept k class owner
+  a-line : class ≡ 2 → owner ≡ noOwner → FateKept k class owner
 
-pub words-come-back : {k class owner : ℕ} (first count : ℕ) → Kept k class owner →
-    wordsOf k (recordFrom first count class owner) ≡ first ∷ count ∷ class ∷ owner ∷ []
-unfolding wordsOf recordFrom fateFrom fateOf classWord ownerWord
-words-come-back first count (a-polygon e f) = rw (e, f)
-words-come-back {k} {class} {owner} first count (a-hole e) = rw e (by (eqb owner noOwner) refl)
+-- and the area's two words, which are words of 32 bits
+pub record Kept (k class owner low high : ℕ) : Type 0 where
+  pub fate-kept : FateKept k class owner
+  pub low-kept : low < 2 ^ 32
+  pub high-kept : high < 2 ^ 32
+
+-- the words of record i, in a record of number k
+abbrev pub KeptAt : ℕ → List ℕ → ℕ → Type 0
+KeptAt k ws i = Kept k (classAt ws i) (ownerAt ws i) (areaLowAt ws i) (areaHighAt ws i)
+
+fate-words-come-back : {k class owner : ℕ} → FateKept k class owner →
+    (classWord (fateOf (fateFrom class owner)) ≡ class) × (ownerWord k (fateOf (fateFrom class owner)) ≡ owner)
+unfolding fateFrom fateOf classWord ownerWord
+fate-words-come-back (a-polygon e f) = rw (e, f) (refl, refl)
+fate-words-come-back {k} {class} {owner} (a-hole e) = rw e (by (eqb owner noOwner) refl)
   where
     by : (b : Bool) → eqb owner noOwner ≡ b →
-        first ∷ count ∷ classWord (fateOf (cond b fate-is.Dropped (fate-is.Hole owner))) ∷ ownerWord k (fateOf (cond b fate-is.Dropped (fate-is.Hole owner))) ∷ []
-        ≡ first ∷ count ∷ 1 ∷ owner ∷ []
-    by true f = rw (eqb-true owner noOwner f)
-    by false f = refl
-words-come-back first count (a-line e f) = rw (e, f)
+        (classWord (fateOf (cond b fate-is.Dropped (fate-is.Hole owner))) ≡ 1) × (ownerWord k (fateOf (cond b fate-is.Dropped (fate-is.Hole owner))) ≡ owner)
+    by true f = rw (eqb-true owner noOwner f) (refl, refl)
+    by false f = (refl, refl)
+fate-words-come-back (a-line e f) = rw (e, f) (refl, refl)
 
--- where class and owner words are kept, the words come back from the records that they stand for, numbered from k
-pub all-words-come-back : (k n : ℕ) (ws : List ℕ) → length ws ≡ directoryWords n → ((i : ℕ) → i < n → Kept (k + i) (classAt ws i) (ownerAt ws i)) →
-    directoryFrom k (recordsFrom ws) ≡ ws
-unfolding directoryFrom recordsFrom directoryWords recordStride classAt ownerAt
+pub words-come-back : {k class owner low high : ℕ} (first count : ℕ) → Kept k class owner low high →
+    wordsOf k (recordFrom first count class owner low high) ≡ first ∷ count ∷ class ∷ owner ∷ low ∷ high ∷ []
+unfolding wordsOf recordFrom
+words-come-back {low = low} {high} first count w =
+    let fate = fate-words-come-back (w .fate-kept) in
+    rw (fate .0, fate .1, area-words-come-back low high (w .low-kept) (w .high-kept))
+
+-- where these words are kept, all words come back from the records that they stand for, numbered from k
+pub all-words-come-back : (k n : ℕ) (ws : List ℕ) → length ws ≡ directoryWords n → ((i : ℕ) → i < n → KeptAt (k + i) ws i) → directoryFrom k (recordsFrom ws) ≡ ws
+unfolding directoryFrom recordsFrom directoryWords recordStride classAt ownerAt areaLowAt areaHighAt
 all-words-come-back k n [] h kept = refl
 all-words-come-back k n (a ∷ []) h kept = absurd (omega arith)
 all-words-come-back k n (a ∷ b ∷ []) h kept = absurd (omega arith)
 all-words-come-back k n (a ∷ b ∷ c ∷ []) h kept = absurd (omega arith)
-all-words-come-back k zero (a ∷ b ∷ c ∷ d ∷ ws) h kept = absurd (omega arith)
-all-words-come-back k (suc n) (a ∷ b ∷ c ∷ d ∷ ws) h kept =
-    let e : wordsOf k (recordFrom a b c d) ≡ a ∷ b ∷ c ∷ d ∷ [] = words-come-back a b (rw add-zero at (kept 0 (omega arith))) in
+all-words-come-back k n (a ∷ b ∷ c ∷ d ∷ []) h kept = absurd (omega arith)
+all-words-come-back k n (a ∷ b ∷ c ∷ d ∷ l ∷ []) h kept = absurd (omega arith)
+all-words-come-back k zero (a ∷ b ∷ c ∷ d ∷ l ∷ u ∷ ws) h kept = absurd (omega arith)
+all-words-come-back k (suc n) (a ∷ b ∷ c ∷ d ∷ l ∷ u ∷ ws) h kept =
+    let e : wordsOf k (recordFrom a b c d l u) ≡ a ∷ b ∷ c ∷ d ∷ l ∷ u ∷ [] = words-come-back a b (rw add-zero at (kept 0 (omega arith))) in
     rw (e, all-words-come-back (suc k) n ws (omega arith) rest)
   where
-    later : (q i : ℕ) → getD (a ∷ b ∷ c ∷ d ∷ ws) (4 * suc i + q) 0 ≡ getD ws (4 * i + q) 0
-    later q i = let e : 4 * suc i + q ≡ suc (suc (suc (suc (4 * i + q)))) = omega arith in rw e
+    later : (q i : ℕ) → getD (a ∷ b ∷ c ∷ d ∷ l ∷ u ∷ ws) (6 * suc i + q) 0 ≡ getD ws (6 * i + q) 0
+    later q i = let e : 6 * suc i + q ≡ suc (suc (suc (suc (suc (suc (6 * i + q)))))) = omega arith in rw e
 
-    rest : (i : ℕ) → i < n → Kept (suc k + i) (classAt ws i) (ownerAt ws i)
+    rest : (i : ℕ) → i < n → KeptAt (suc k + i) ws i
     rest i m =
         let e : k + suc i ≡ suc k + i = omega arith in
-        rw (e, later 2 i, later 3 i) at (kept (suc i) (omega arith))
+        rw (e, later 2 i, later 3 i, later 4 i, later 5 i) at (kept (suc i) (omega arith))
 
 -- ---- records that come back
 
@@ -101,19 +126,23 @@ fate-comes-back k (fate-is.Hole owner) h = rw (ne-eqb owner noOwner (λ e. h (ap
 fate-comes-back k fate-is.Dropped h = refl
 fate-comes-back k fate-is.Line h = refl
 
--- a record comes back from its words, but for a hole of the owner that stands for none
-pub record-comes-back : (k : ℕ) (r : RingRecord) → (r .fate ≡ fate-is.Hole noOwner → ⊥) →
-    recordFrom (r .first) (r .count) (classWord (fateOf (r .fate))) (ownerWord k (fateOf (r .fate))) ≡ r
+-- a record comes back from its words, but for a hole of the owner that stands for none, where its area fits 64 bits, as any `i64` does
+pub record-comes-back : (k : ℕ) (r : RingRecord) → (r .fate ≡ fate-is.Hole noOwner → ⊥) → SFits w64 (r .area) →
+    recordFrom (r .first) (r .count) (classWord (fateOf (r .fate))) (ownerWord k (fateOf (r .fate))) (lowWord (r .area)) (highWord (r .area)) ≡ r
 unfolding recordFrom
-record-comes-back k r h = rw (fate-comes-back k (r .fate) h)
+record-comes-back k r h f = rw (fate-comes-back k (r .fate) h, area-comes-back (r .area) f)
 
 -- ---- a checked set
 
--- class and owner of a sound record come back
-sound-kept : (ps directory : List ℕ) (rings k : ℕ) → SoundRecord ps directory rings k → Kept k (classAt directory k) (ownerAt directory k)
-sound-kept ps directory rings k s = by (eqb (classAt directory k) 0) refl
+-- class, owner and area of a sound record come back
+sound-kept : (ps directory : List ℕ) (rings k : ℕ) → SoundRecord ps directory rings k → KeptAt k directory k
+sound-kept ps directory rings k s = record {
+  fate-kept = by (eqb (classAt directory k) 0) refl;
+  low-kept = rw (s .area-low) (low-fits (area (ringAt ps directory k)));
+  high-kept = rw (s .area-high) (high-fits (area (ringAt ps directory k)));
+}
   where
-    by : (b : Bool) → eqb (classAt directory k) 0 ≡ b → Kept k (classAt directory k) (ownerAt directory k)
+    by : (b : Bool) → eqb (classAt directory k) 0 ≡ b → FateKept k (classAt directory k) (ownerAt directory k)
     by true e = let p = eqb-true (classAt directory k) 0 e in a-polygon p (s .polygon p)
     by false e =
         let not-0 = eqb-false (classAt directory k) 0 e in
@@ -121,17 +150,18 @@ sound-kept ps directory rings k s = by (eqb (classAt directory k) 0) refl
         a-hole (omega arith)
 
 -- so are those of a set that number 9 does not refuse
-pub checked-words-are-kept : (ps directory : List ℕ) (n : ℕ) → ringSetRefused ps directory n ≡ false → (i : ℕ) → i < n → Kept i (classAt directory i) (ownerAt directory i)
+pub checked-words-are-kept : (ps directory : List ℕ) (n : ℕ) → ringSetRefused ps directory n ≡ false → (i : ℕ) → i < n → KeptAt i directory i
 checked-words-are-kept ps directory n e i h = sound-kept ps directory n i (sound ps directory n e .at i h)
 
 -- the first words come back from the records that they stand for
-pub first-words-come-back : (directory : List ℕ) (n : ℕ) → directoryWords n ≤ length directory → ((i : ℕ) → i < n → Kept i (classAt directory i) (ownerAt directory i)) →
+pub first-words-come-back : (directory : List ℕ) (n : ℕ) → directoryWords n ≤ length directory → ((i : ℕ) → i < n → KeptAt i directory i) →
     directoryOf (recordsFrom (take (directoryWords n) directory)) ≡ take (directoryWords n) directory
-unfolding directoryOf directoryWords recordStride classAt ownerAt
+unfolding directoryOf directoryWords recordStride classAt ownerAt areaLowAt areaHighAt
 first-words-come-back directory n long kept = all-words-come-back 0 n (take (directoryWords n) directory) (length-take-le (directoryWords n) directory long) front-kept
   where
-    word : (i q : ℕ) → i < n → q < 4 → getD (take (directoryWords n) directory) (4 * i + q) 0 ≡ getD directory (4 * i + q) 0
-    word i q h l = getD-take (directoryWords n) directory (4 * i + q) 0 (omega arith)
+    word : (i q : ℕ) → i < n → q < 6 → getD (take (directoryWords n) directory) (6 * i + q) 0 ≡ getD directory (6 * i + q) 0
+    word i q h l = getD-take (directoryWords n) directory (6 * i + q) 0 (omega arith)
 
-    front-kept : (i : ℕ) → i < n → Kept (0 + i) (classAt (take (directoryWords n) directory) i) (ownerAt (take (directoryWords n) directory) i)
-    front-kept i h = rw (zero-add, word i 2 h (omega arith), word i 3 h (omega arith)) (kept i h)
+    front-kept : (i : ℕ) → i < n → KeptAt (0 + i) (take (directoryWords n) directory) i
+    front-kept i h =
+        rw (zero-add, word i 2 h (omega arith), word i 3 h (omega arith), word i 4 h (omega arith), word i 5 h (omega arith)) (kept i h)

@@ -1,12 +1,14 @@
--- A directory as records, each holding its fate, and as document 01's words: from the one to the other and back. Assumes nothing.
-use Prim.Native.Nat.{ℕ, suc}
+-- A directory as records, each holding its fate and its area, and as words: from the one to the other and back. Assumes nothing.
+use Prim.Native.Nat.{ℕ, suc, _+_, _*_, _-_, _^_}
 use mathlib.Core.Bool.{cond}
 use mathlib.Core.List.{List, [], _∷_, _++_}
-use lib.Dec.{eqb}
+use lib.Dec.{ltb, eqb}
+use lib.IntN.{ℤ, pos, negsuc}
 use Rattle.scope.specs.Limits.{noOwner}
+use Rattle.scope.specs.Area.{areaWords}
 use Rattle.scope.specs.Contour as Contour
 use Rattle.scope.specs.Contour.{classWord, ownerWord}
-use Rattle.scope.specs.GeoJson.{firstAt, countAt, classAt, ownerAt}
+use Rattle.scope.specs.GeoJson.{firstAt, countAt, classAt, ownerAt, areaLowAt, areaHighAt}
 use Rattle.ringrecord.specs.declared.Fate.{Fate}
 use Rattle.ringrecord.specs.declared.Fate.the-variants as fate-is
 use Rattle.ringrecord.specs.declared.RingRecord.{RingRecord}
@@ -20,9 +22,9 @@ fateOf (fate-is.Hole owner) = Contour.hole owner
 fateOf fate-is.Dropped = Contour.dropped
 fateOf fate-is.Line = Contour.line
 
--- the words of the record of number k: first point, point count, class, owner
+-- the words of the record of number k: first point, point count, class, owner, and the area's two
 unfoldable pub wordsOf : ℕ → RingRecord → List ℕ
-wordsOf k r = r .first ∷ r .count ∷ classWord (fateOf (r .fate)) ∷ ownerWord k (fateOf (r .fate)) ∷ []
+wordsOf k r = r .first ∷ r .count ∷ classWord (fateOf (r .fate)) ∷ ownerWord k (fateOf (r .fate)) ∷ areaWords (r .area)
 
 -- the words of all records, numbered from k
 unfoldable pub directoryFrom : ℕ → List RingRecord → List ℕ
@@ -38,17 +40,28 @@ directoryOf records = directoryFrom 0 records
 unfoldable pub fateFrom : ℕ → ℕ → Fate
 fateFrom class owner = cond (eqb class 0) fate-is.Polygon (cond (eqb class 1) (cond (eqb owner noOwner) fate-is.Dropped (fate-is.Hole owner)) fate-is.Line)
 
-unfoldable pub recordFrom : ℕ → ℕ → ℕ → ℕ → RingRecord
-recordFrom first count class owner = record { first = first; count = count; fate = fateFrom class owner }
+-- the whole number that is this one in two's complement, in 64 bits
+unfoldable pub wholeFrom : ℕ → ℤ
+wholeFrom n = cond (ltb n (2 ^ 63)) (pos n) (negsuc (2 ^ 64 - 1 - n))
 
--- the records that words stand for, four words a record
+-- the area that two words stand for, low word first
+unfoldable pub areaFrom : ℕ → ℕ → ℤ
+areaFrom low high = wholeFrom (low + 2 ^ 32 * high)
+
+unfoldable pub recordFrom : ℕ → ℕ → ℕ → ℕ → ℕ → ℕ → RingRecord
+recordFrom first count class owner low high = record { first = first; count = count; fate = fateFrom class owner; area = areaFrom low high }
+
+-- the records that words stand for, six words a record
 unfoldable pub recordsFrom : List ℕ → List RingRecord
 recordsFrom [] = []
 recordsFrom (first ∷ []) = []
 recordsFrom (first ∷ count ∷ []) = []
 recordsFrom (first ∷ count ∷ class ∷ []) = []
-recordsFrom (first ∷ count ∷ class ∷ owner ∷ words) = recordFrom first count class owner ∷ recordsFrom words
+recordsFrom (first ∷ count ∷ class ∷ owner ∷ []) = []
+recordsFrom (first ∷ count ∷ class ∷ owner ∷ low ∷ []) = []
+recordsFrom (first ∷ count ∷ class ∷ owner ∷ low ∷ high ∷ words) = recordFrom first count class owner low high ∷ recordsFrom words
 
 -- record k of a directory
 unfoldable pub recordIn : List ℕ → ℕ → RingRecord
-recordIn directory k = recordFrom (firstAt directory k) (countAt directory k) (classAt directory k) (ownerAt directory k)
+recordIn directory k =
+    recordFrom (firstAt directory k) (countAt directory k) (classAt directory k) (ownerAt directory k) (areaLowAt directory k) (areaHighAt directory k)

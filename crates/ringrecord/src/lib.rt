@@ -1,18 +1,20 @@
-// A directory record as a struct that holds its fate, the way from document 01's four words to it and back, and the copies of a whole directory from words to
-// records and back. A copy is all or nothing and asks nothing of the caller.
+// A directory record as a struct that holds its fate and its area, the way from the six words of a record to it and back, and the copies of a whole directory
+// from words to records and back. A copy is all or nothing and asks nothing of the caller.
 use lent::put;
 use limits::HOLE;
 use limits::LINE;
 use limits::NO_OWNER;
 use limits::POLYGON;
 use limits::RECORD_STRIDE;
+use measuring::put_area;
 use ringset::record_at;
 ghost use mathlib.Core.Path.{_≡_};
 ghost use lib.ListN.{length};
 ghost use lib.Seq.{sets};
+ghost use Rattle.scope.specs.Area.{twosComplement};
 ghost use Rattle.scope.specs.Contour.{classWord, ownerWord};
 ghost use Rattle.scope.specs.Room.{directoryWords};
-ghost use Rattle.ringrecord.specs.Records.{fateOf, wordsOf, fateFrom, recordFrom, recordIn};
+ghost use Rattle.ringrecord.specs.Records.{fateOf, wordsOf, fateFrom, areaFrom, recordFrom, recordIn};
 ghost use Rattle.ringrecord.specs.Copies.{roomFor, copiedRings, recordsAfter, wordsAfter};
 
 // What became of a ring.
@@ -25,11 +27,12 @@ pub enum Fate {
     Line,
 }
 
-// A directory record: the number of the ring's first point, how many points it has, and its fate.
+// A directory record: the number of the ring's first point, how many points it has, its fate and its signed area.
 pub struct RingRecord {
     pub first: u32,
     pub count: u32,
     pub fate: Fate,
+    pub area: i64,
 }
 
 // The class word of a fate.
@@ -56,6 +59,17 @@ pub fn owner_word(k: u32, fate: Fate) -> u32
     }
 }
 
+// An area in two's complement.
+fn complement(area: i64) -> u64
+    ensures { λ r. ⌜ r ≡ twosComplement area ⌝ }
+{
+    if area < 0 {
+        let left = (-1 - area) as u64;
+        return 18446744073709551615 - left;
+    }
+    area as u64
+}
+
 // The fate that class and owner words stand for.
 fn fate_from(class: u32, owner: u32) -> Fate
     ensures { λ r. ⌜ r ≡ fateFrom class owner ⌝ }
@@ -72,14 +86,27 @@ fn fate_from(class: u32, owner: u32) -> Fate
     Fate::Hole(owner)
 }
 
-// The record that four words stand for.
-fn record_from(first: u32, count: u32, class: u32, owner: u32) -> RingRecord
-    ensures { λ r. ⌜ r ≡ recordFrom first count class owner ⌝ }
+// The area that two words stand for, low word first.
+fn area_from(low: u32, high: u32) -> i64
+    ensures { λ r. ⌜ r ≡ areaFrom low high ⌝ }
+{
+    let bits = (low as u64) + 4294967296 * (high as u64);
+    if bits < 9223372036854775808 {
+        return bits as i64;
+    }
+    let left = (18446744073709551615 - bits) as i64;
+    -1 - left
+}
+
+// The record that six words stand for.
+fn record_from(first: u32, count: u32, class: u32, owner: u32, low: u32, high: u32) -> RingRecord
+    ensures { λ r. ⌜ r ≡ recordFrom first count class owner low high ⌝ }
 {
     RingRecord {
         first,
         count,
         fate: fate_from(class, owner),
+        area: area_from(low, high),
     }
 }
 
@@ -88,10 +115,17 @@ fn record_in(directory: &[u32], k: u32) -> RingRecord
     ensures { λ r. ⌜ r ≡ recordIn (now (directory .entry)) k ⌝ }
 {
     let words = record_at(directory, k);
-    record_from(words.first, words.count, words.class, words.owner)
+    record_from(
+        words.first,
+        words.count,
+        words.class,
+        words.owner,
+        words.area_low,
+        words.area_high,
+    )
 }
 
-// Stores the four words of record `k`.
+// Stores the six words of record `k`.
 fn put_words(directory: &mut [u32], k: u32, record: RingRecord)
     ensures { λ _. ⌜ now (directory .exit) ≡ sets (now (directory .entry)) (directoryWords k) (wordsOf k «record») ⌝ }
 {
@@ -101,6 +135,7 @@ fn put_words(directory: &mut [u32], k: u32, record: RingRecord)
     put(directory, at + 1, record.count);
     put(directory, at + 2, class_word(fate));
     put(directory, at + 3, owner_word(k, fate));
+    put_area(directory, at + 4, complement(record.area));
 }
 
 // How many of the stated rings are copied, where there are so many words and records: all, or none.

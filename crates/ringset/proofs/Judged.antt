@@ -1,4 +1,4 @@
--- The verdict on a record's ring, test by test: a test that refuses decides, and past the last but one the class does. Assumes nothing.
+-- The verdict on a record's ring, test by test: a test that refuses decides, and past the others the class does. Assumes nothing.
 use mathlib.Core.Path.{_≡_}
 use mathlib.Core.Bool.{Bool, true, false, or-true, _||_}
 use mathlib.Core.List.{List}
@@ -8,10 +8,10 @@ use lib.Dec.{ltb}
 use lib.ListN.{length, take, drop}
 use borrow.Author.Tests.{lt-ltb, le-ltb}
 use Rattle.scope.specs.Limits.{coordinateLimit, pointLimit}
-use Rattle.scope.specs.Area.{points, anyAbove}
+use Rattle.scope.specs.Area.{points, area, twosComplement, anyAbove}
 use Rattle.scope.specs.GeoJson.{wordsIn, unclosed}
 use Rattle.ringset.specs.declared.Record.{Record}
-use Rattle.ringset.specs.OneRecord.{shapeRefused}
+use Rattle.ringset.specs.OneRecord.{areaDiffers, shapeRefused}
 
 -- the words of count points from the point of number first on, as a part of the points
 abbrev pub part : List ℕ → ℕ → ℕ → List ℕ
@@ -37,13 +37,13 @@ module _ (ps : List ℕ) (r : Record) where
     unfolding shapeRefused
     too-many h = rw (le-ltb (r .count) 4 four, lt-ltb pointLimit (r .count) h, or-true)
 
-    module _ (few : r .count ≤ pointLimit) (within : 2 * (r .first + r .count) ≤ length ps) {over : Bool}
-        (o : over ≡ anyAbove coordinateLimit (part ps (r .first) (r .count))) where
+    module _ (few : r .count ≤ pointLimit) (within : 2 * (r .first + r .count) ≤ length ps) {over : Bool} {n : ℕ}
+        (found : (over ≡ anyAbove coordinateLimit (part ps (r .first) (r .count))) × (n ≡ twosComplement (area (points (part ps (r .first) (r .count)))))) where
       -- past the count and the range
-      walked : shapeRefused ps r ≡ over || unclosed (points (part ps (r .first) (r .count))) || ltb 1 (r .class)
+      walked : shapeRefused ps r ≡ over || unclosed (points (part ps (r .first) (r .count))) || areaDiffers n r || ltb 1 (r .class)
       unfolding shapeRefused
       walked =
-          rw (o, part-is ps (r .first) (r .count), le-ltb (length ps) _ within, le-ltb (r .count) 4 four, le-ltb pointLimit (r .count) few)
+          rw (found .0, found .1, part-is ps (r .first) (r .count), le-ltb (length ps) _ within, le-ltb (r .count) 4 four, le-ltb pointLimit (r .count) few)
 
       pub too-high : over ≡ true → true ≡ shapeRefused ps r
       too-high h = rw (walked, h)
@@ -52,5 +52,9 @@ module _ (ps : List ℕ) (r : Record) where
         pub not-closed : apart ≡ true → true ≡ shapeRefused ps r
         not-closed h = rw (walked, low, ← u, h)
 
-        pub class-decides : apart ≡ false → ltb 1 (r .class) ≡ shapeRefused ps r
-        class-decides h = rw (walked, low, ← u, h)
+        module _ (closed : apart ≡ false) {differs : Bool} (d : differs ≡ areaDiffers n r) where
+          pub another-area : differs ≡ true → true ≡ shapeRefused ps r
+          another-area h = rw (walked, low, ← u, closed, ← d, h)
+
+          pub class-decides : differs ≡ false → ltb 1 (r .class) ≡ shapeRefused ps r
+          class-decides h = rw (walked, low, ← u, closed, ← d, h)

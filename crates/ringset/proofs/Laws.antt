@@ -1,55 +1,71 @@
--- What a ring set is that number 9 does not refuse: its directory is long enough, and of each record the range, the count, the class and the owner are
--- such as a reader may go by. Readers of a checked set cite `sound`, and those of one record by itself `sound-shape`. Assumes nothing.
+-- What a ring set is that number 9 does not refuse: its directory is long enough, and of each record the range, the count, the area, the class and the
+-- owner are such as a reader may go by. Readers of a checked set cite `sound`, and those of one record by itself `sound-shape`. Assumes nothing.
 use mathlib.Core.Path.{_≡_, refl}
 use mathlib.Core.Bool.{Bool, true, false, not, true≢false, and-eq-true-iff, _&&_}
 use mathlib.Core.List.{List}
 use mathlib.Core.Logic.{_⊎_, inl, inr, ⊎-elim}
 use Prim.Native.Nat.{ℕ, _+_, _*_, _<_, _≤_}
+use lib.IntN.{ℤ}
 use lib.ListN.{length}
 use borrow.Author.Tests.{ltb-true, ltb-false, eqb-true, eq-eqb, not-false}
 use Rattle.scope.specs.Limits.{coordinateLimit, recordStride, pointLimit, noOwner}
-use Rattle.scope.specs.Area.{points, anyAbove}
+use Rattle.scope.specs.Area.{points, area, twosComplement, lowWord, highWord, anyAbove}
 use Rattle.scope.specs.Room.{directoryWords}
-use Rattle.scope.specs.GeoJson.{firstAt, countAt, classAt, ownerAt, wordsIn, ringWordsAt, ringAt, unclosed, directoryShort, rangeOutside, countOut, coordinateOver, classOut, isPolygon, isHole, ownedByAnother, ownedByNone, recordRefused, ringSetRefused}
+use Rattle.scope.specs.GeoJson.{firstAt, countAt, classAt, ownerAt, areaLowAt, areaHighAt, wordsIn, ringWordsAt, ringAt, unclosed, directoryShort, rangeOutside, countOut, coordinateOver, areaOff, classOut, isPolygon, isHole, ownedByAnother, ownedByNone, recordRefused, ringSetRefused}
 use Rattle.laws.proofs.Tests.{neither}
 use Rattle.ringset.specs.declared.Record.{Record}
-use Rattle.ringset.specs.OneRecord.{recordAt, shapeRefused}
+use Rattle.ringset.specs.OneRecord.{recordAt, areaDiffers, shapeRefused}
 use Rattle.ringset.proofs.Below.{none-below}
 
 -- a record whose ring is not refused: its range lies within the points, it has 4 points or more and not too many, no coordinate is above the limit, its last
--- point is the first, and it is a polygon or a hole
+-- point is the first, its area is its ring's, and it is a polygon or a hole
 pub record SoundShape (ps : List ℕ) (r : Record) : Type 0 where
   pub within : 2 * (r .first + r .count) ≤ length ps
   pub four : 4 ≤ r .count
   pub few : r .count ≤ pointLimit
   pub low : anyAbove coordinateLimit (wordsIn ps (r .first) (r .count)) ≡ false
   pub closed : unclosed (points (wordsIn ps (r .first) (r .count))) ≡ false
+  pub area-low : r .«area_low» ≡ lowWord (area (points (wordsIn ps (r .first) (r .count))))
+  pub area-high : r .«area_high» ≡ highWord (area (points (wordsIn ps (r .first) (r .count))))
   pub classed : r .class ≤ 1
+
+-- both words of an area that does not differ
+same-area : (a : ℤ) (r : Record) → areaDiffers (twosComplement a) r ≡ false → (r .«area_low» ≡ lowWord a) × (r .«area_high» ≡ highWord a)
+unfolding areaDiffers lowWord highWord
+same-area a r e =
+    let both = and-eq-true-iff _ _ .0 (not-false _ e) in
+    (eqb-true _ _ (both .0), eqb-true _ _ (both .1))
 
 pub sound-shape : (ps : List ℕ) (r : Record) → shapeRefused ps r ≡ false → SoundShape ps r
 unfolding shapeRefused
 sound-shape ps r e =
     let class = neither _ _ e in
-    let ended = neither _ _ (class .0) in
+    let measured = neither _ _ (class .0) in
+    let ended = neither _ _ (measured .0) in
     let walked = neither _ _ (ended .0) in
     let range = neither _ _ (walked .0) in
     let count = neither _ _ (range .1) in
+    let words = same-area _ r (measured .1) in
     record {
       within = ltb-false _ _ (range .0);
       four = ltb-false _ _ (count .0);
       few = ltb-false _ _ (count .1);
       low = walked .1;
       closed = ended .1;
+      area-low = words .0;
+      area-high = words .1;
       classed = ltb-false _ _ (class .1);
     }
 
--- record k of a set of as many rings as are stated: its range lies within the points, it has 4 points or more and not too many, it is a polygon that
--- owns itself, or a hole that is dropped or has a polygon of the set as its owner
+-- record k of a set of as many rings as are stated: its range lies within the points, it has 4 points or more and not too many, its area is its ring's,
+-- it is a polygon that owns itself, or a hole that is dropped or has a polygon of the set as its owner
 pub record SoundRecord (ps directory : List ℕ) (rings k : ℕ) : Type 0 where
   pub shaped : shapeRefused ps (recordAt directory k) ≡ false
   pub within : 2 * (firstAt directory k + countAt directory k) ≤ length ps
   pub four : 4 ≤ countAt directory k
   pub few : countAt directory k ≤ pointLimit
+  pub area-low : areaLowAt directory k ≡ lowWord (area (ringAt ps directory k))
+  pub area-high : areaHighAt directory k ≡ highWord (area (ringAt ps directory k))
   pub classed : classAt directory k ≤ 1
   pub polygon : classAt directory k ≡ 0 → ownerAt directory k ≡ k
   pub hole : classAt directory k ≡ 1 →
@@ -84,7 +100,7 @@ module _ (ps directory : List ℕ) (rings k : ℕ) where
 
   -- a record that is not refused is sound
   sound-record : recordRefused ps directory rings k ≡ false → SoundRecord ps directory rings k
-  unfolding recordAt shapeRefused recordRefused rangeOutside countOut coordinateOver ringAt ringWordsAt classOut
+  unfolding recordAt areaDiffers shapeRefused lowWord highWord recordRefused rangeOutside countOut coordinateOver ringAt ringWordsAt areaOff classOut
   sound-record e =
       let none = neither _ _ e in
       let another = neither _ _ (none .0) in
@@ -94,6 +110,8 @@ module _ (ps directory : List ℕ) (rings k : ℕ) where
         within = shape .within;
         four = shape .four;
         few = shape .few;
+        area-low = shape .area-low;
+        area-high = shape .area-high;
         classed = shape .classed;
         polygon = owns-itself (another .1);
         hole = owned (none .1);

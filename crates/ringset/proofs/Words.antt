@@ -1,8 +1,8 @@
--- Whether a ring is closed, by its first two words and its last two. Assumes nothing.
+-- Whether a ring is closed, by its first two words and its last two, and whether an area differs, by its two words. Assumes nothing.
 use mathlib.Core.Path.{_≡_, refl, sym}
 use mathlib.Core.Bool.{Bool, true, false, not, _&&_, _||_}
 use mathlib.Core.List.{List, [], _∷_}
-use Prim.Native.Nat.{ℕ, suc, _-_, _<_, _%_}
+use Prim.Native.Nat.{ℕ, suc, _-_, _<_, _/_, _%_, _^_}
 use native.Mathlib.Omega.{arith}
 use lib.Dec.{eqb}
 use lib.ListN.{length, getD}
@@ -10,6 +10,8 @@ use Rattle.scope.specs.Area.{points}
 use Rattle.scope.specs.Cells.{samePoint}
 use Rattle.scope.specs.GeoJson.{unclosed}
 use Rattle.laws.proofs.Words.{last-of}
+use Rattle.ringset.specs.declared.Record.{Record}
+use Rattle.ringset.specs.OneRecord.{areaDiffers}
 
 -- two tests do not both hold where one of them fails
 not-both : (a b : Bool) → not (a && b) ≡ not a || not b
@@ -26,3 +28,8 @@ unclosed-by-words (x ∷ y ∷ ws) h p =
     let two : suc (suc (length ws)) - 2 ≡ length ws = omega arith in
     let one : suc (suc (length ws)) - 1 ≡ suc (length ws) = omega arith in
     rw (two, one, last-of x y ws (omega (arith, p))) (sym (not-both (eqb (getD (x ∷ y ∷ ws) (length ws) 0) x) _))
+
+-- whether one of a record's two words is not the area's
+pub differs-by-words : (n : ℕ) (r : Record) → not (eqb (r .«area_low») (n % 2 ^ 32)) || not (eqb (r .«area_high») (n / 2 ^ 32)) ≡ areaDiffers n r
+unfolding areaDiffers
+differs-by-words n r = sym (not-both (eqb (r .«area_low») (n % 2 ^ 32)) _)

@@ -1,30 +1,31 @@
 // The check of a ring set: whether words are points and a directory such as a reader takes, which is number 9 of document 01. It takes any words whatever.
 use lent::word;
-use limits::COORDINATE_LIMIT;
 use limits::HOLE;
 use limits::NO_OWNER;
 use limits::POINT_LIMIT;
 use limits::POLYGON;
 use limits::RECORD_STRIDE;
+use measuring::measure;
 ghost use mathlib.Core.Path.{_≡_};
 ghost use Prim.Native.Nat.{_<_, _%_};
 ghost use lib.ListN.{length};
-ghost use Rattle.scope.specs.Limits.{coordinateLimit};
 ghost use Rattle.scope.specs.Area as Area;
-ghost use Rattle.scope.specs.GeoJson.{firstAt, countAt, classAt, ownerAt, unclosed, recordRefused, ringSetRefused};
-ghost use Rattle.ringset.specs.OneRecord.{shapeRefused, ownerRefused};
+ghost use Rattle.scope.specs.GeoJson.{firstAt, countAt, classAt, ownerAt, areaLowAt, areaHighAt, unclosed, recordRefused, ringSetRefused};
+ghost use Rattle.ringset.specs.OneRecord.{areaDiffers, shapeRefused, ownerRefused};
 
-// A directory record.
+// A directory record. Its last two words are the ring's area in two's complement.
 pub struct Record {
     pub first: u32,
     pub count: u32,
     pub class: u32,
     pub owner: u32,
+    pub area_low: u32,
+    pub area_high: u32,
 }
 
 // Record `k` of a directory; its words are 0 past the end.
 pub fn record_at(directory: &[u32], k: u32) -> Record
-    ensures { λ r. ⌜ (r .first ≡ firstAt (now (directory .entry)) k) × (r .count ≡ countAt (now (directory .entry)) k) × (r .class ≡ classAt (now (directory .entry)) k) × (r .owner ≡ ownerAt (now (directory .entry)) k) ⌝ }
+    ensures { λ r. ⌜ (r .first ≡ firstAt (now (directory .entry)) k) × (r .count ≡ countAt (now (directory .entry)) k) × (r .class ≡ classAt (now (directory .entry)) k) × (r .owner ≡ ownerAt (now (directory .entry)) k) × (r .«area_low» ≡ areaLowAt (now (directory .entry)) k) × (r .«area_high» ≡ areaHighAt (now (directory .entry)) k) ⌝ }
 {
     let at = RECORD_STRIDE * (k as usize);
     Record {
@@ -32,20 +33,9 @@ pub fn record_at(directory: &[u32], k: u32) -> Record
         count: word(directory, at + 1),
         class: word(directory, at + 2),
         owner: word(directory, at + 3),
+        area_low: word(directory, at + 4),
+        area_high: word(directory, at + 5),
     }
-}
-
-// Whether a coordinate is above the limit. It looks at every word, with no branch.
-fn coordinate_over(words: &[u16]) -> bool
-    ensures { λ r. ⌜ r ≡ Area.anyAbove coordinateLimit (now (words .entry)) ⌝ }
-{
-    let mut over = false;
-    let mut i = 0;
-    while i < words.len() {
-        over = over | (COORDINATE_LIMIT < words[i]);
-        i += 1;
-    }
-    over
 }
 
 // Whether the last point of a ring is not the first.
@@ -58,7 +48,15 @@ fn unclosed(words: &[u16]) -> bool
     (words[n - 2] != words[0]) | (words[n - 1] != words[1])
 }
 
-// Whether number 9 refuses a record for its ring: the count, the range, a coordinate, the last point or the class.
+// Whether an area in two's complement is another than a record's two words hold.
+fn area_differs(area: u64, record: Record) -> bool
+    ensures { λ r. ⌜ r ≡ areaDiffers area «record» ⌝ }
+{
+    (record.area_low != (area % 4294967296) as u32)
+        | (record.area_high != (area / 4294967296) as u32)
+}
+
+// Whether number 9 refuses a record for its ring: the count, the range, a coordinate, the last point, the area or the class. It walks over the ring once.
 fn shape_faulty(points: &[u16], record: Record) -> bool
     ensures { λ r. ⌜ r ≡ shapeRefused (now (points .entry)) «record» ⌝ }
 {
@@ -75,10 +73,14 @@ fn shape_faulty(points: &[u16], record: Record) -> bool
         return true;
     }
     let ring = &points[2 * first..end];
-    if coordinate_over(ring) {
+    let found = measure(ring);
+    if found.over {
         return true;
     }
     if unclosed(ring) {
+        return true;
+    }
+    if area_differs(found.area, record) {
         return true;
     }
     HOLE < record.class

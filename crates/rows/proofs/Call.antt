@@ -89,13 +89,14 @@ module _ (A : Sheet) (dx r : ℕ) where
   most-below w b some zero small = omega (arith, most-of-none w A dx r)
   most-below w b some (suc n) small = omega (arith, most-of-more w A dx r n, most-below w b some n (λ c h. small c (omega arith)), small n (omega arith))
 
--- a table of n words has no room for k records where a fourth of it has fewer words
-pub fourth : (n k : ℕ) → ltb (n / 4) k ≡ ltb n (4 * k)
-fourth n k = by (decLt (n / 4) k)
+-- a table of n words has no room for k records where it holds fewer whole ones
+pub room-for-records : (n k : ℕ) → ltb (n / recordStride) k ≡ ltb n (directoryWords k)
+unfolding directoryWords recordStride
+room-for-records n k = by (decLt (n / 6) k)
   where
-    by : Dec (n / 4 < k) → ltb (n / 4) k ≡ ltb n (4 * k)
-    by (yes h) = lt-ltb (n / 4) k h ∙ sym (lt-ltb n (4 * k) (omega arith))
-    by (no h) = le-ltb (n / 4) k (omega arith) ∙ sym (le-ltb n (4 * k) (omega arith))
+    by : Dec (n / 6 < k) → ltb (n / 6) k ≡ ltb n (6 * k)
+    by (yes h) = lt-ltb (n / 6) k h ∙ sym (lt-ltb n (6 * k) (omega arith))
+    by (no h) = le-ltb (n / 6) k (omega arith) ∙ sym (le-ltb n (6 * k) (omega arith))
 
 -- equal behind a place, and so behind a later one
 pub drop-further : (n m : ℕ) (xs ys : List ℕ) → n ≤ m → drop n xs ≡ drop n ys → drop m xs ≡ drop m ys
@@ -432,12 +433,15 @@ module _ (A : Sheet) {dx dy : ℕ} (out : Outside A dx dy) (columns : dx ≤ sid
       unfolding callRings ringsAfter
       given-rings = given-are holds′ ∙ ap (λ (d : Drawing). drop (length (drawingAfter A dx r 0 .rings)) (d .rings)) (row-over A dx r)
 
+      given-fit : 2 * total length (holds′ .given) ≤ length points
+      given-fit = omega (arith, points-fit, points-are (callRings A dx r), ap (total length) given-rings)
+
       pub points-out : g′ .points ≡ written (packedPoints (callRings A dx r)) points
       points-out =
-          points-written (holds′ .out) (omega (arith, points-fit, points-are (callRings A dx r), ap (total length) given-rings))
+          points-written (holds′ .out) given-fit
           ∙ ap (λ (rings : List Line). written (packedPoints rings) points) given-rings
 
       pub directory-out : g′ .directory ≡ written (bareRecords 0 0 (callRings A dx r)) directory
       directory-out =
-          records-written (holds′ .out) (unfold directoryWords recordStride in omega (arith, directory-fits, ap length given-rings))
+          records-written (holds′ .out) given-fit (unfold directoryWords recordStride in omega (arith, directory-fits, ap length given-rings))
           ∙ ap (λ (rings : List Line). written (bareRecords 0 0 rings) directory) given-rings

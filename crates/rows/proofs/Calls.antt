@@ -10,6 +10,7 @@ use lib.ListN.{length, replicate}
 use borrow.Author.Tests.{lt-ltb, le-ltb, eq-eqb, ne-eqb}
 use Rattle.error.specs.declared.Refusal.{Refusal}
 use Rattle.error.specs.declared.Refusal.the-variants.{OpenShort, BadRow, BadTurn}
+use Rattle.scope.specs.Limits.{recordStride}
 use Rattle.scope.specs.Room.{openWords, linkWords}
 use Rattle.grid.specs.Grid.{badSide}
 use Rattle.packing.specs.Cleared.{cleared}
@@ -125,12 +126,12 @@ module _ (s : Rows) (lower lines links points directory : List ℕ) where
   -- where the open table has room for the lines that are open, the answer settles the call
   module _ (enough : openWords (s .dx) (s .count) ≤ length lines) (t : Trial) (is-trial : t ≡ tried s lower lines .trial) (words : List ℕ)
       (are-tried : words ≡ linesTried s lower lines) (answer : Built)
-      (answers : answer ≡ answerBy (s .dx) (length lines) (length links) (length points) (length directory / 4) t) where
+      (answers : answer ≡ answerBy (s .dx) (length lines) (length links) (length points) (length directory / recordStride) t) where
     settles : settled s lower lines links points directory answer ≡ advanced s lower lines links points directory
     unfolding advanced
     settles =
         sym (rw (le-ltb (length lines) (openWords (s .dx) (s .count)) enough)
-        (ap (λ (k : Trial). settled s lower lines links points directory (answerBy (s .dx) (length lines) (length links) (length points) (length directory / 4) k)) (sym is-trial)
+        (ap (λ (k : Trial). settled s lower lines links points directory (answerBy (s .dx) (length lines) (length links) (length points) (length directory / recordStride) k)) (sym is-trial)
         ∙ ap (settled s lower lines links points directory) (sym answers)))
 
     -- refused: the frontier is noted anew
@@ -154,7 +155,7 @@ module _ (s : Rows) (lower lines links points directory : List ℕ) where
   unfolding advanced settled refusedBy taken stateAfter
   columns-stay =
       by (ltb (length lines) (openWords (s .dx) (s .count)))
-      (answerBy (s .dx) (length lines) (length links) (length points) (length directory / 4) (tried s lower lines .trial))
+      (answerBy (s .dx) (length lines) (length links) (length points) (length directory / recordStride) (tried s lower lines .trial))
     where
       by : (short : Bool) (answer : Built)
           → cond short (refusedBy s lines links points directory OpenShort) (settled s lower lines links points directory answer) .state .dx ≡ s .dx

@@ -27,7 +27,7 @@ use Rattle.rows.specs.Called.{Outcome, tried, linesTried, answerBy, take
 use Rattle.rows.specs.Turns.{pointsIn, callPeak, callHeld, callRings, callVerdict, peakTo, heldTo}
 use Rattle.rows.specs.declared.Rows.{Rows}
 use Rattle.rows.proofs.Standing.{stateOf, Standing}
-use Rattle.rows.proofs.Call.{fourth, peak-most, peak-is, most-is, rings-is, points-is, restored, lines-past, links-past, stands, points-out, directory-out}
+use Rattle.rows.proofs.Call.{room-for-records, peak-most, peak-is, most-is, rings-is, points-is, restored, lines-past, links-past, stands, points-out, directory-out}
 
 -- a call that is taken: the rings that close in row r are given out, state and tables stand one row further, and words past the need stay
 pub record Gives (A : Sheet) (level : Level) (dx dy r : ℕ) (lines links points directory : List ℕ) (o : Outcome) : Type 0 where
@@ -59,7 +59,7 @@ module _ (A : Sheet) {dx dy : ℕ} (out : Outside A dx dy) (columns : dx ≤ sid
   o = advanced t lower lines links points directory
 
   abbrev answer : Built
-  answer = answerBy dx (length lines) (length links) (length points) (length directory / 4) trial
+  answer = answerBy dx (length lines) (length links) (length points) (length directory / recordStride) trial
 
   -- the answer by the four tests
   abbrev chosen : Bool → Bool → Bool → Bool → Built
@@ -73,14 +73,14 @@ module _ (A : Sheet) {dx dy : ℕ} (out : Outside A dx dy) (columns : dx ≤ sid
   answer-chosen : answer
       ≡ chosen (ltb (length lines) (openWords dx (callPeak A dx r))) (ltb (length links) (linkWords (callHeld A dx r))) (ltb (length points) (2 * pointsIn (callRings A dx r)))
       (ltb (length directory) (directoryWords (length (callRings A dx r))))
-  unfolding answerBy directoryWords recordStride
+  unfolding answerBy
   answer-chosen =
       rw (
         peak-is A out columns rows level r hr s lines links now lower below points directory,
         most-is A out columns rows level r hr s lines links now lower below points directory,
         points-is A out columns rows level r hr s lines links now lower below points directory,
         rings-is A out columns rows level r hr s lines links now lower below points directory,
-        fourth (length directory) (length (callRings A dx r)),
+        room-for-records (length directory) (length (callRings A dx r)),
       )
       refl
 

@@ -9,6 +9,7 @@ use lib.ListN.{length}
 use Rattle.error.specs.declared.Refusal.{Refusal}
 use Rattle.error.specs.declared.Refusal.the-variants.{BadSide, OpenShort, LinksShort, PointsShort, DirectoryShort, BadRow, BadTurn}
 use Rattle.scope.specs.Terrain.{Sheet, aboveAt, terrain}
+use Rattle.scope.specs.Limits.{recordStride}
 use Rattle.scope.specs.Room.{openWords, linkWords}
 use Rattle.grid.specs.Grid.{badSide}
 use Rattle.scan.specs.Rows.{wordFrom}
@@ -147,7 +148,7 @@ module _ (s : Rows) (lower lines links points directory : List ℕ) where
   advanced =
       cond (ltb (length lines) (openWords (s .dx) (s .count)))
       (refusedBy s lines links points directory OpenShort)
-      (settled (answerBy (s .dx) (length lines) (length links) (length points) (length directory / 4) (tried s lower lines .trial)))
+      (settled (answerBy (s .dx) (length lines) (length links) (length points) (length directory / recordStride) (tried s lower lines .trial)))
 
 -- ---- the calls
 

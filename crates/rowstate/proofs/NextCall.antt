@@ -9,6 +9,7 @@ use lib.Dec.{T, eqb, ltb}
 use lib.Ieee.{Float, binary64, fits}
 use lib.ListN.{length, getD}
 use Rattle.error.specs.declared.Refusal.the-variants.{OpenShort, BadRow, BadTurn}
+use Rattle.scope.specs.Limits.{recordStride}
 use Rattle.scope.specs.Room.{openWords}
 use Rattle.scope.specs.Terrain.{Sheet, aboveAt, terrain}
 use Rattle.words.proofs.Laws.{none-packed}
@@ -77,7 +78,7 @@ module _ {level : Level} (s : Rows) (stored : Stored level s) (lines links point
   advanced-leads : (lower : List ℕ) → Bounded (s .dx) lower → Leads level (advanced s lower lines links points directory)
   unfolding advanced refusedBy
   advanced-leads lower bounded =
-      let answer = answerBy (s .dx) (length lines) (length links) (length points) (length directory / 4) (tried s lower lines .trial) in
+      let answer = answerBy (s .dx) (length lines) (length links) (length points) (length directory / recordStride) (tried s lower lines .trial) in
       either (Leads level) (ltb (length lines) (openWords (s .dx) (s .count))) (refusedBy s lines links points directory OpenShort) (settled s lower lines links points directory answer)
       stored
       (settled-leads lower bounded answer)

@@ -5,15 +5,15 @@ use mathlib.Core.Bool.{Bool, false}
 use mathlib.Core.List.{List, [], _∷_}
 use Rattle.scope.specs.Limits.{coordinateLimit, pointLimit, recordStride, noOwner}
 use Rattle.scope.specs.Cells.{samePoint}
-use Rattle.scope.specs.Area.{points, lastOf, anyAbove}
+use Rattle.scope.specs.Area.{points, twist, twists, lastOf, area, twosComplement, lowWord, highWord, anyAbove}
 use Rattle.scope.specs.Room.{directoryWords}
-use Rattle.scope.specs.GeoJson.{firstAt, countAt, classAt, ownerAt, wordsIn, ringWordsAt, ringAt, directoryShort, rangeOutside, countOut, coordinateOver, unclosed, classOut, isPolygon, isHole, ownedByAnother, ownedByNone, recordRefused, anyBelow, ringSetRefused, decimalBy, decimal, coordinateText, joined, bracketed, pointText, ringText, numbersOf, polygonNumbers, isHoleOf, holeNumbers, polygonText, opening, geoJsonText}
+use Rattle.scope.specs.GeoJson.{firstAt, countAt, classAt, ownerAt, areaLowAt, areaHighAt, wordsIn, ringWordsAt, ringAt, directoryShort, rangeOutside, countOut, coordinateOver, unclosed, areaOff, classOut, isPolygon, isHole, ownedByAnother, ownedByNone, recordRefused, anyBelow, ringSetRefused, decimalBy, decimal, coordinateText, joined, bracketed, pointText, ringText, numbersOf, polygonNumbers, isHoleOf, holeNumbers, polygonText, opening, geoJsonText}
 
 pub ring : List ℕ
 ring = 2 ∷ 1 ∷ 1 ∷ 0 ∷ 0 ∷ 1 ∷ 1 ∷ 2 ∷ 2 ∷ 1 ∷ []
 
 pub directory : List ℕ
-directory = 0 ∷ 5 ∷ 0 ∷ 0 ∷ []
+directory = 0 ∷ 5 ∷ 0 ∷ 0 ∷ 4 ∷ 0 ∷ []
 
 pub stated : List ℕ
 stated =
@@ -25,5 +25,5 @@ stated =
     ∷ []
 
 pub the-example : (ringSetRefused ring directory 1 ≡ false) × (geoJsonText ring directory 1 ≡ stated)
-unfolding ring directory stated coordinateLimit pointLimit recordStride noOwner samePoint points lastOf anyAbove directoryWords firstAt countAt classAt ownerAt wordsIn ringWordsAt ringAt directoryShort rangeOutside countOut coordinateOver unclosed classOut isPolygon isHole ownedByAnother ownedByNone recordRefused anyBelow ringSetRefused decimalBy decimal coordinateText joined bracketed pointText ringText numbersOf polygonNumbers isHoleOf holeNumbers polygonText opening geoJsonText
+unfolding ring directory stated coordinateLimit pointLimit recordStride noOwner samePoint points twist twists lastOf area twosComplement lowWord highWord anyAbove directoryWords firstAt countAt classAt ownerAt areaLowAt areaHighAt wordsIn ringWordsAt ringAt directoryShort rangeOutside countOut coordinateOver unclosed areaOff classOut isPolygon isHole ownedByAnother ownedByNone recordRefused anyBelow ringSetRefused decimalBy decimal coordinateText joined bracketed pointText ringText numbersOf polygonNumbers isHoleOf holeNumbers polygonText opening geoJsonText
 the-example = (refl, refl)

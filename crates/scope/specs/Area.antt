@@ -1,5 +1,5 @@
--- The area of a ring, the points that words hold, and what number 11 refuses of a ring's words. Assumes nothing.
-use Prim.Native.Nat.{ℕ, zero, suc, _*_, _/_, _%_}
+-- The area of a ring, the two words that it is in a record, the points that words hold, and what number 11 refuses of a ring's words. Assumes nothing.
+use Prim.Native.Nat.{ℕ, zero, suc, _-_, _*_, _/_, _%_, _^_}
 use mathlib.Core.Bool.{Bool, true, false, _||_}
 use mathlib.Core.List.{List, [], _∷_}
 use lib.Dec.{ltb, eqb}
@@ -37,6 +37,21 @@ area (p ∷ l) = twists (lastOf p l) (p ∷ l)
 unfoldable pub positive : ℤ → Bool
 positive (pos n) = ltb 0 n
 positive (negsuc n) = false
+
+-- a whole number in two's complement, in 64 bits: one below 0 is all ones less the number that is one short of its size
+unfoldable pub twosComplement : ℤ → ℕ
+twosComplement (pos n) = n % 2 ^ 64
+twosComplement (negsuc n) = 2 ^ 64 - 1 - n % 2 ^ 64
+
+-- an area as a record holds it, low word first
+unfoldable pub lowWord : ℤ → ℕ
+lowWord a = twosComplement a % 2 ^ 32
+
+unfoldable pub highWord : ℤ → ℕ
+highWord a = twosComplement a / 2 ^ 32
+
+unfoldable pub areaWords : ℤ → List ℕ
+areaWords a = lowWord a ∷ highWord a ∷ []
 
 unfoldable pub anyAbove : ℕ → List ℕ → Bool
 anyAbove limit [] = false

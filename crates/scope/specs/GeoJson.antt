@@ -7,12 +7,12 @@ use lib.ListN.{length, getD, take, drop}
 use Rattle.scope.specs.Limits.{coordinateLimit, pointLimit, recordStride, noOwner}
 use Rattle.scope.specs.Cells.{Point, samePoint}
 use Rattle.scope.specs.Stitching.{Line}
-use Rattle.scope.specs.Area.{points, lastOf, anyAbove}
+use Rattle.scope.specs.Area.{points, lastOf, area, lowWord, highWord, anyAbove}
 use Rattle.scope.specs.Room.{directoryWords}
 
 -- ---- a ring set: points as words, and a directory of records
 
--- the words of record k: first point, point count, class, owner
+-- the words of record k: first point, point count, class, owner, and the area's two
 unfoldable pub firstAt : List ℕ → ℕ → ℕ
 firstAt directory k = getD directory (recordStride * k) 0
 
@@ -25,6 +25,12 @@ classAt directory k = getD directory (recordStride * k + 2) 0
 unfoldable pub ownerAt : List ℕ → ℕ → ℕ
 ownerAt directory k = getD directory (recordStride * k + 3) 0
 
+unfoldable pub areaLowAt : List ℕ → ℕ → ℕ
+areaLowAt directory k = getD directory (recordStride * k + 4) 0
+
+unfoldable pub areaHighAt : List ℕ → ℕ → ℕ
+areaHighAt directory k = getD directory (recordStride * k + 5) 0
+
 -- the words of count points from the point of number first on, and the words and the ring of record k
 unfoldable pub wordsIn : List ℕ → ℕ → ℕ → List ℕ
 wordsIn ps first count = take (2 * count) (drop (2 * first) ps)
@@ -35,7 +41,7 @@ ringWordsAt ps directory k = wordsIn ps (firstAt directory k) (countAt directory
 unfoldable pub ringAt : List ℕ → List ℕ → ℕ → Line
 ringAt ps directory k = points (ringWordsAt ps directory k)
 
--- ---- number 9, in document 01's order
+-- ---- number 9, in document 01's order, with document 02's area before the class
 
 -- the directory is shorter than the stated rings
 unfoldable pub directoryShort : List ℕ → ℕ → Bool
@@ -57,6 +63,11 @@ coordinateOver ps directory k = anyAbove coordinateLimit (ringWordsAt ps directo
 unfoldable pub unclosed : Line → Bool
 unclosed [] = false
 unclosed (p ∷ l) = not (samePoint (lastOf p l) p)
+
+-- the area is not its ring's
+unfoldable pub areaOff : List ℕ → List ℕ → ℕ → Bool
+areaOff ps directory k =
+    not (eqb (areaLowAt directory k) (lowWord (area (ringAt ps directory k))) && eqb (areaHighAt directory k) (highWord (area (ringAt ps directory k))))
 
 -- the class is not 0 or 1
 unfoldable pub classOut : List ℕ → ℕ → Bool
@@ -84,6 +95,7 @@ recordRefused ps directory rings k =
     || countOut directory k
     || coordinateOver ps directory k
     || unclosed (ringAt ps directory k)
+    || areaOff ps directory k
     || classOut directory k
     || ownedByAnother directory k
     || ownedByNone directory rings k

@@ -13,9 +13,9 @@ coordinateLimit = 8192
 unfoldable pub pointLimit : ℕ
 pointLimit = 67108864
 
--- a directory record is four words: first point, point count, class, owner
+-- a directory record is six words: first point, point count, class, owner, and the area, which takes two
 unfoldable pub recordStride : ℕ
-recordStride = 4
+recordStride = 6
 
 -- the owner of a dropped hole, of a line and of a bare ring
 unfoldable pub noOwner : ℕ

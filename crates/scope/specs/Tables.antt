@@ -6,6 +6,7 @@ use mathlib.Core.Bool.{Bool}
 use lib.Ieee.{Float}
 use Rattle.scope.specs.Cells.{Point}
 use Rattle.scope.specs.Stitching.{Line}
+use Rattle.scope.specs.Area.{area, areaWords}
 use Rattle.scope.specs.Contour.{Fate, line, classWord, ownerWord, contourFates}
 use Rattle.scope.specs.Smoothing.{Vertex, Placing, lineVertices}
 use Rattle.scope.specs.Band.{Numbered, numberedFrom, bandOrder, orderRings, bandFates}
@@ -42,14 +43,21 @@ packedVertices vertices (ring ∷ rings) = vertexWords (vertices ring) ++ packed
 unfoldable pub linePoints : Bool → List Float → Float → ℕ → ℕ → Placing → List Line → List Float
 linePoints smooth values t dx dy q rings = packedVertices (lineVertices smooth values t dx dy q) rings
 
--- a record: first point, point count, class, owner; k is the record's own number
-unfoldable pub recordOf : ℕ → ℕ → Line → Fate → List ℕ
-recordOf k first ring fate = first ∷ length ring ∷ classWord fate ∷ ownerWord k fate ∷ []
+-- a record without its area: first point, point count, class, owner; k is the record's own number
+unfoldable pub shortOf : ℕ → ℕ → Line → Fate → List ℕ
+shortOf k first ring fate = first ∷ length ring ∷ classWord fate ∷ ownerWord k fate ∷ []
 
--- the records of bare rings, numbered from k, whose points begin at the point of number first
-unfoldable pub bareRecords : ℕ → ℕ → List Line → List ℕ
-bareRecords k first [] = []
-bareRecords k first (ring ∷ rings) = recordOf k first ring line ++ bareRecords (suc k) (first + length ring) rings
+-- a record: these, and the ring's area
+unfoldable pub recordOf : ℕ → ℕ → Line → Fate → List ℕ
+recordOf k first ring fate = shortOf k first ring fate ++ areaWords (area ring)
+
+-- the records of bare rings, numbered from k, whose points begin at the point of number first, where a record has these words
+unfoldable pub bareBy : (ℕ → ℕ → Line → Fate → List ℕ) → ℕ → ℕ → List Line → List ℕ
+bareBy words k first [] = []
+bareBy words k first (ring ∷ rings) = words k first ring line ++ bareBy words (suc k) (first + length ring) rings
+
+abbrev pub bareRecords : ℕ → ℕ → List Line → List ℕ
+bareRecords k first rings = bareBy recordOf k first rings
 
 -- the number of the first point of the ring of number i, where all rings are packed
 unfoldable pub firstPoint : List Line → ℕ → ℕ
@@ -57,11 +65,14 @@ firstPoint rings zero = 0
 firstPoint [] (suc i) = 0
 firstPoint (ring ∷ rings) (suc i) = length ring + firstPoint rings i
 
--- the records of rings in an order, numbered from k, each with its fate; all are the rings as they are packed
-unfoldable pub orderedRecords : List Line → ℕ → List Numbered → List Fate → List ℕ
-orderedRecords all k [] fates = []
-orderedRecords all k (n ∷ ns) [] = []
-orderedRecords all k (n ∷ ns) (fate ∷ fates) = recordOf k (firstPoint all (n .number)) (n .ring) fate ++ orderedRecords all (suc k) ns fates
+-- the records of rings in an order, numbered from k, each with its fate, where a record has these words; all are the rings as they are packed
+unfoldable pub orderedBy : (ℕ → ℕ → Line → Fate → List ℕ) → List Line → ℕ → List Numbered → List Fate → List ℕ
+orderedBy words all k [] fates = []
+orderedBy words all k (n ∷ ns) [] = []
+orderedBy words all k (n ∷ ns) (fate ∷ fates) = words k (firstPoint all (n .number)) (n .ring) fate ++ orderedBy words all (suc k) ns fates
+
+abbrev pub orderedRecords : List Line → ℕ → List Numbered → List Fate → List ℕ
+orderedRecords all k order fates = orderedBy recordOf all k order fates
 
 -- a contour's records stand by ring number
 unfoldable pub contourRecords : List Line → List ℕ

@@ -6,7 +6,7 @@ use crate::levels::Slice;
 use crate::options::{Figure, Options};
 use crate::shapes::{self, Line};
 use crate::terrain::Terrain;
-use nigrulent::{Placement, Point, Record, Refusal, Regions, Rule, Vertex};
+use nigrulent::{Placement, Point, Record, Refusal, Regions, Ring, Rule, Vertex};
 use std::io::{self, Write};
 
 /// Writes one figure as a bare geometry, or all of them as a collection, a feature a line.
@@ -77,7 +77,7 @@ impl Writer<'_> {
         } else {
             let regions = shapes::polygons(self.terrain, slice, self.figure)?;
             let Placement { x_step, y_step, .. } = self.terrain.placement.unwrap_or_default();
-            let area = number(shapes::area(&regions)? * (x_step * y_step).abs());
+            let area = number(shapes::area(&regions) * (x_step * y_step).abs());
             let polygons = regions.polygons.len();
             write!(
                 out,
@@ -108,7 +108,7 @@ pub fn write_ring_feature(
 ) -> Result<(), Failure> {
     write_heights(out, slice)?;
     let Placement { x_step, y_step, .. } = placement.unwrap_or_default();
-    let area = number(shapes::ring_area(ring.points)? * (x_step * y_step).abs());
+    let area = number(shapes::ring_area(ring) * (x_step * y_step).abs());
     write!(
         out,
         ",\"ring\":{},\"area\":{area}}},\"geometry\":",
@@ -165,41 +165,41 @@ fn write_polygons(
     out: &mut dyn Write,
     regions: &Regions,
     placement: Option<Placement>,
-) -> Result<(), Failure> {
+) -> io::Result<()> {
     out.write_all(b"{\"type\":\"MultiPolygon\",\"coordinates\":[")?;
     for (k, polygon) in regions.polygons.iter().enumerate() {
         write_comma(out, k)?;
         out.write_all(b"[")?;
-        write_ring(out, &polygon.exterior.points, placement, true)?;
+        write_ring(out, &polygon.exterior, placement, true)?;
         for interior in &polygon.interiors {
             out.write_all(b",")?;
-            write_ring(out, &interior.points, placement, false)?;
+            write_ring(out, interior, placement, false)?;
         }
         out.write_all(b"]")?;
     }
-    Ok(out.write_all(b"]}")?)
+    out.write_all(b"]}")
 }
 
 /// A ring in grid units as it is; on the map so that it runs as it should there.
 fn write_ring(
     out: &mut dyn Write,
-    ring: &[Point],
+    ring: &Ring,
     placement: Option<Placement>,
     counterclockwise: bool,
-) -> Result<(), Failure> {
+) -> io::Result<()> {
+    let points = halves(&ring.points);
     let placement = match placement {
-        None => return Ok(write_points(out, halves(ring))?),
+        None => return write_points(out, points),
         Some(placement) => placement,
     };
     // A ring of area above 0 runs clockwise where y grows upward, and a map that is turned over turns it over.
     let turned = placement.x_step * placement.y_step < 0.0;
-    let runs_so = (nigrulent::area(ring)? < 0) != turned;
-    let points = halves(ring).map(|point| placed(placement, point));
+    let runs_so = (ring.area < 0) != turned;
+    let points = points.map(|point| placed(placement, point));
     match runs_so == counterclockwise {
-        true => write_points(out, points)?,
-        false => write_points(out, points.rev())?,
+        true => write_points(out, points),
+        false => write_points(out, points.rev()),
     }
-    Ok(())
 }
 
 fn write_points(out: &mut dyn Write, points: impl Iterator<Item = Vertex>) -> io::Result<()> {

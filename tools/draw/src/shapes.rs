@@ -4,7 +4,7 @@
 use crate::levels::{is_above, Slice};
 use crate::options::Figure;
 use crate::terrain::Terrain;
-use nigrulent::{Level, Placement, Point, Refusal, Regions, Rings, Tables, Vertex};
+use nigrulent::{Level, Placement, Point, Record, Refusal, Regions, Rings, Tables, Vertex};
 use std::borrow::Cow;
 
 /// A line's vertices, the first repeated last.
@@ -82,20 +82,22 @@ pub fn half(point: Point) -> Vertex {
 }
 
 /// What a ring encloses, in squares of one step from sample to sample; of a hole it is below 0.
-pub fn ring_area(ring: &[Point]) -> Result<f64, Refusal> {
-    Ok(nigrulent::area(ring)? as f64 / 8.0)
+pub fn ring_area(ring: &Record) -> f64 {
+    in_squares(ring.area)
 }
 
 /// What polygons enclose, holes left out, in squares of one step from sample to sample.
-pub fn area(regions: &Regions) -> Result<f64, Refusal> {
-    let mut eighths = 0;
-    for polygon in &regions.polygons {
-        eighths += nigrulent::area(&polygon.exterior.points)?.abs();
-        for interior in &polygon.interiors {
-            eighths -= nigrulent::area(&interior.points)?.abs();
-        }
-    }
-    Ok(eighths as f64 / 8.0)
+pub fn area(regions: &Regions) -> f64 {
+    let enclosed = regions.polygons.iter().map(|polygon| {
+        let holes = polygon.interiors.iter().map(|ring| ring.area.abs());
+        polygon.exterior.area.abs() - holes.sum::<i64>()
+    });
+    in_squares(enclosed.sum())
+}
+
+/// The library's areas are in eighths of such a square. A float holds any that there are.
+fn in_squares(eighths: i64) -> f64 {
+    eighths as f64 / 8.0
 }
 
 /// The lines at the heights of a slice, those at the lower one first. Smoothing gives no number beside a sample

@@ -14,6 +14,9 @@ use std::io::Write;
 /// and a contour of noise has tens of thousands.
 const NAMED: usize = 20;
 
+/// A column of numbers is so wide, or wider.
+const LEAST_WIDTH: usize = 6;
+
 /// Writes the sentence on a ring, or the table of all.
 pub fn write(
     out: &mut dyn Write,
@@ -32,18 +35,20 @@ pub fn write(
     Ok(())
 }
 
-/// A line for each ring, in columns: its number, its class, its owner and its number of points.
+/// A line for each ring, in columns: its number, its class, its owner, its number of points and its area.
 fn write_table(out: &mut dyn Write, rings: &Rings) -> Result<(), Failure> {
     let points = rings.iter().map(<[Point]>::len).max().unwrap_or(0);
     // No number of a ring has more digits than how many there are.
-    let [number, points] = [rings.len(), points].map(|most| most.to_string().len().max(6));
-    let mut line = |[ring, class, owner, count]: [&dyn Display; 4]| {
+    let [number, points] = [rings.len(), points].map(|most| width(&most));
+    let areas = rings.records().map(|ring| width(&shapes::ring_area(&ring)));
+    let area = areas.max().unwrap_or(LEAST_WIDTH);
+    let mut line = |[ring, class, owner, count, size]: [&dyn Display; 5]| {
         writeln!(
             out,
-            "{ring:>number$}  {class:<7}  {owner:>number$}  {count:>points$}"
+            "{ring:>number$}  {class:<7}  {owner:>number$}  {count:>points$}  {size:>area$}"
         )
     };
-    line([&"ring", &"class", &"owner", &"points"])?;
+    line([&"ring", &"class", &"owner", &"points", &"area"])?;
     for record in rings.records() {
         let class = match record.fate {
             Fate::Polygon => "polygon",
@@ -52,9 +57,15 @@ fn write_table(out: &mut dyn Write, rings: &Rings) -> Result<(), Failure> {
         };
         let owner = record.owner().map(|owner| owner.to_string());
         let owner = owner.as_deref().unwrap_or("-");
-        line([&record.number, &class, &owner, &record.points.len()])?;
+        let (count, size) = (record.points.len(), shapes::ring_area(&record));
+        line([&record.number, &class, &owner, &count, &size])?;
     }
     Ok(())
+}
+
+/// How wide a column has to be for this.
+fn width(shown: &dyn Display) -> usize {
+    shown.to_string().len().max(LEAST_WIDTH)
 }
 
 /// The sentence on the ring of a number, if there is such a ring.
@@ -69,7 +80,7 @@ fn explain(rings: &Rings, number: u64) -> Result<String, Failure> {
         RingFate::Hole { owner, .. } => Others::below(owner, rings, ring.number)?,
         RingFate::Dropped => Others::below(u32::MAX, rings, ring.number)?,
     };
-    Ok(sentence(&ring, fate, &others)?)
+    Ok(sentence(&ring, fate, &others))
 }
 
 fn no_ring(number: u64, count: usize) -> String {
@@ -142,25 +153,25 @@ fn listed(numbers: &[u32]) -> String {
 }
 
 /// What became of a ring, and why.
-fn sentence(ring: &Record, fate: RingFate, others: &Others) -> Result<String, Refusal> {
+fn sentence(ring: &Record, fate: RingFate, others: &Others) -> String {
     let alone = others.asked.is_empty();
+    let area = shapes::ring_area(ring);
+    let not_above = format!("its area is {area}, which is not above 0, and");
     let became = match fate {
-        RingFate::Polygon => {
-            let area = shapes::ring_area(ring.points)?;
-            format!("a polygon: its area is {area}, which is above 0")
-        }
+        RingFate::Polygon => format!("a polygon: its area is {area}, which is above 0"),
         RingFate::Hole { owner, by } => {
-            format!("a hole of polygon {owner}: {}", held(ring.points, by))
+            let held = held(ring.points, by);
+            format!("a hole of polygon {owner}: {not_above} {held}")
         }
-        RingFate::Dropped if alone => "dropped: it is a hole, and there is no polygon".to_owned(),
-        RingFate::Dropped => "dropped: it is a hole that no polygon holds".to_owned(),
+        RingFate::Dropped if alone => format!("dropped: {not_above} there is no polygon"),
+        RingFate::Dropped => format!("dropped: {not_above} no polygon holds it"),
     };
     let mut clauses = vec![format!("ring {} is {became}", ring.number)];
     if alone && matches!(fate, RingFate::Hole { .. }) {
         clauses.push("no polygon has a lower number".to_owned());
     }
     clauses.extend(others.clauses());
-    Ok(clauses.join("; "))
+    clauses.join("; ")
 }
 
 /// Why a polygon holds a ring.
@@ -184,6 +195,7 @@ mod tests {
         let ring = Record {
             number: 7,
             fate: Fate::Dropped,
+            area: -4,
             points: &RING,
         };
         let asked = asked
@@ -193,7 +205,7 @@ mod tests {
             asked: asked.collect(),
             more,
         };
-        sentence(&ring, fate, &others).expect("the ring has an area")
+        sentence(&ring, fate, &others)
     }
 
     #[test]
@@ -201,17 +213,17 @@ mod tests {
         let dropped = |asked, more| says(RingFate::Dropped, asked, more);
         assert_eq!(
             dropped(&[], 0),
-            "ring 7 is dropped: it is a hole, and there is no polygon"
+            "ring 7 is dropped: its area is -0.5, which is not above 0, and there is no polygon"
         );
         assert_eq!(
             dropped(&[(0, &[1, 4, 9]), (3, &[5])], 0),
-            "ring 7 is dropped: it is a hole that no polygon holds; polygons 1, 4 and 9 do not hold it: vertex 0 \
-             lies outside each; polygon 5 does not hold it: vertex 3 lies outside"
+            "ring 7 is dropped: its area is -0.5, which is not above 0, and no polygon holds it; polygons 1, 4 and 9 \
+             do not hold it: vertex 0 lies outside each; polygon 5 does not hold it: vertex 3 lies outside"
         );
         assert_eq!(
             dropped(&[(2, &[8])], 1),
-            "ring 7 is dropped: it is a hole that no polygon holds; polygon 8 does not hold it: vertex 2 lies \
-             outside; nor does 1 more"
+            "ring 7 is dropped: its area is -0.5, which is not above 0, and no polygon holds it; polygon 8 does not \
+             hold it: vertex 2 lies outside; nor does 1 more"
         );
     }
 
@@ -223,8 +235,9 @@ mod tests {
         };
         assert_eq!(
             says(fate, &[(0, &[1, 4])], 1234),
-            "ring 7 is a hole of polygon 12: each of its vertices lies on the boundary or in the row of the polygon's \
-             first point; polygons 1 and 4 do not hold it: vertex 0 lies outside each; nor do 1234 more"
+            "ring 7 is a hole of polygon 12: its area is -0.5, which is not above 0, and each of its vertices lies on \
+             the boundary or in the row of the polygon's first point; polygons 1 and 4 do not hold it: vertex 0 lies \
+             outside each; nor do 1234 more"
         );
     }
 }

@@ -2,7 +2,7 @@
 
 #![allow(dead_code)]
 
-use nigrulent::{Level, Refusal, Ring, Rows, Rule, Terrain};
+use nigrulent::{Level, Point, Refusal, Ring, Rows, Rule, Terrain};
 
 /// How many random terrains are drawn.
 const TERRAINS: u64 = 600;
@@ -61,6 +61,16 @@ pub fn for_terrains_of(
         let terrain = Terrain::new(&values, dx, dy).expect("sides and count are right");
         call(&terrain, level).expect("nothing is refused");
     }
+}
+
+/// Document 01's area of a ring: the sum over i of y(i-1)·x(i) - x(i-1)·y(i), the last point standing before the first.
+pub fn summed_area(ring: &[Point]) -> i64 {
+    let before = ring.last().into_iter().chain(ring);
+    before
+        .zip(ring)
+        .map(|(before, at)| (before.map(i64::from), at.map(i64::from)))
+        .map(|([x0, y0], [x1, y1])| y0 * x1 - x0 * y1)
+        .sum()
 }
 
 /// The rings of all rows and of the end, one after the other.

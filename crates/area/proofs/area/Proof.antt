@@ -1,4 +1,4 @@
--- `area::area` meets its contract. The loop's invariant is `Sums`: the two sums and what is left make the area, and stay small.
+-- `area::area` meets its contract. The loop's invariant is `Sums` of sound words: the two sums and what is left make the area, and stay small.
 -- The measure is what is left of the length. Assumes nothing.
 use mathlib.Core.Path.{sym, _∙_}
 use Prim.Native.Nat.{_-_, _<_}
@@ -13,7 +13,7 @@ use Rattle.area.proofs.area.Statement.{statement}
 use Rattle.area.proofs.area.Tie as tie
 
 abbrev Inv-loop : tie.InvT-loop
-Inv-loop ring n x₀ y₀ gained₀ lost₀ i₀ x y gained lost i = Sums ring x y gained lost i
+Inv-loop ring n x₀ y₀ gained₀ lost₀ i₀ x y gained lost i = Sound ring × Sums ring x y gained lost i
 
 abbrev μ-loop : tie.MeasureT-loop
 μ-loop ring n x₀ y₀ gained₀ lost₀ i₀ x y gained lost i = length ring - i
@@ -49,7 +49,7 @@ shared-slice-read-y c = omega (arith, accepted (c .before .before))
 
 loop-holds : tie.Need-loop-holds Inv-loop μ-loop
 unfolding lastPoint
-loop-holds c = sums-begin _ (accepted (c .before .before) .0) (accepted (c .before .before) .1)
+loop-holds c = let ring = accepted (c .before .before) in (ring .0, sums-begin _ (ring .0 .paired) (ring .1))
 
 mul-next-x : tie.Need-mul-next-x Inv-loop μ-loop
 mul-next-x c = omega arith
@@ -87,7 +87,8 @@ loop-less c = omega arith
 loop-again : tie.Need-loop-again Inv-loop μ-loop
 loop-again c =
     let turn = c .before .before .before .before in
-    sums-next (turn .before .loop .inv) (turn .loop-test .taken) (c .before .product .ensures) (c .product2 .ensures)
+    let inv = turn .before .loop .inv in
+    (inv .0, sums-next (inv .1) (turn .loop-test .taken) (c .before .product .ensures) (c .product2 .ensures))
 
 cast-signed : tie.Need-cast-signed Inv-loop μ-loop
 cast-signed c = record { sfits = omega arith }
@@ -103,7 +104,7 @@ unfolding areaAnswer
 returns-2 c =
     let at-loop = c .before in
     let tested = at-loop .before .before .before in
-    simp (← tested .before .no-ring .ensures, tested .if1 .left, sums-end (at-loop .loop .inv) (c .loop-test .left), machine-diff (at-loop .loop .gained) (at-loop .loop .lost) (omega arith) (omega arith))
+    simp (← tested .before .no-ring .ensures, tested .if1 .left, sums-end (at-loop .loop .inv .1) (c .loop-test .left), machine-diff (at-loop .loop .gained) (at-loop .loop .lost) (omega arith) (omega arith))
 
 pub area-spec : {M : Type 1} → statement M
 area-spec =

@@ -1,14 +1,14 @@
--- `contourbuilder::own_either` meets its contract: each arm is the records' own. Assumes nothing.
-use Rattle.contourbuilder.specs.Owning.{recordsOf}
+-- `contourbuilder::own_either` meets its contract: the records without areas are there, and spreading them out leaves whole ones. Assumes nothing.
 use borrow.Author.Needs.{needs}
+use Rattle.contourbuilder.proofs.Whole.{either-written}
 use Rattle.contourbuilder.proofs.own_either.Statement.{statement}
 use Rattle.contourbuilder.proofs.own_either.Tie as tie
 
-own-band-requires : tie.Need-own-band-requires
-own-band-requires c κs = search needs
+own-short-requires : tie.Need-own-short-requires
+own-short-requires c κs = search needs
 
-own-contour-requires : tie.Need-own-contour-requires
-own-contour-requires c κs = search needs
+spread-requires : tie.Need-spread-requires
+spread-requires c κs = search needs
 
 same-length : tie.Need-same-length
 same-length c = search needs
@@ -17,22 +17,11 @@ same-length-2 : tie.Need-same-length-2
 same-length-2 c = search needs
 
 returns : tie.Need-returns
-unfolding recordsOf
 returns c =
-    let called = c .before .before .before .before in
-    rw (called .before .before .before .if1 .taken) (called .own-band .ensures)
-
-same-length-3 : tie.Need-same-length-3
-same-length-3 c = search needs
-
-same-length-4 : tie.Need-same-length-4
-same-length-4 c = search needs
-
-returns-2 : tie.Need-returns-2
-unfolding recordsOf
-returns-2 c =
-    let called = c .before .before .before .before in
-    rw (called .before .before .before .if1 .left) (called .own-contour .ensures)
+    let spread = c .before .before in
+    let short = spread .before .before .before .before .before .before in
+    let start = short .before .before .before .before .before .before in
+    either-written _ _ _ (start .pre .0 .countable) (start .args .band) (short .own-short .ensures) (spread .spread .ensures)
 
 pub own-either-spec : {M : Type 1} → statement M
-own-either-spec = tie.close (tie.spec own-band-requires own-contour-requires same-length same-length-2 returns same-length-3 same-length-4 returns-2)
+own-either-spec = tie.close (tie.spec own-short-requires spread-requires same-length same-length-2 returns)

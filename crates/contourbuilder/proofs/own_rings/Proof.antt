@@ -35,7 +35,8 @@ own-either-requires : tie.Need-own-either-requires
 own-either-requires c κs =
     let known = c .before .before .before .before in
     let start = known .before .before .before .before .before in
-    ownable-rings (known .answer .given .1) _ _ _ _ _ (start .pre) .2
+    let asked = ownable-rings (known .answer .given .1) _ _ _ _ _ (start .pre) in
+    (asked .2, asked .3)
 
 enum-told : tie.Need-enum-told
 enum-told c = search needs

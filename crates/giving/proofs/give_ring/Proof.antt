@@ -1,8 +1,6 @@
 -- `giving::give_ring` meets its contract: what was read and what was stored, put in for each other from the last store back to the entry, is the
 -- definition. Assumes nothing.
 use borrow.Author.Needs.{needs}
-use Rattle.scope.specs.Limits.{recordStride}
-use Rattle.scope.specs.Room.{directoryWords}
 use Rattle.giving.specs.Giving.{ringGiven}
 use Rattle.giving.proofs.give_ring.Statement.{statement}
 use Rattle.giving.proofs.give_ring.Tie as tie
@@ -19,23 +17,8 @@ mul-write-ring c = search needs
 write-ring-requires : tie.Need-write-ring-requires
 write-ring-requires c κs = search needs
 
-cast-put-record : tie.Need-cast-put-record
-cast-put-record c = search needs
-
-mul-put-record : tie.Need-mul-put-record
-mul-put-record c = search needs
-
-cast-put-record-2 : tie.Need-cast-put-record-2
-cast-put-record-2 c = search needs
-
-cast-put-record-3 : tie.Need-cast-put-record-3
-cast-put-record-3 c = search needs
-
-add-put-record : tie.Need-add-put-record
-add-put-record c = search needs
-
-put-record-requires : tie.Need-put-record-requires
-put-record-requires c κs = search needs
+put-ring-record-requires : tie.Need-put-ring-record-requires
+put-ring-record-requires c κs = search needs
 
 put-next-requires : tie.Need-put-next-requires
 put-next-requires c κs = search needs
@@ -62,20 +45,20 @@ same-length-4 : tie.Need-same-length-4
 same-length-4 c = search needs
 
 returns : tie.Need-returns
-unfolding ringGiven directoryWords recordStride
+unfolding ringGiven
 returns c =
     let at-release = c .before .before .before in
     let at-one-less = at-release .before .before .before in
     let at-put-next = at-one-less .before .before .before in
-    let at-put-record = at-put-next .before .before .before .before in
-    let at-write-ring = at-put-record .before .before .before .before .before .before in
+    let at-put-ring-record = at-put-next .before .before .before .before in
+    let at-write-ring = at-put-ring-record .before .before .before .before .before in
     let at-slot-at = at-write-ring .before .before .before .before in
     rw (
       c .after-ring .ensures,
       at-release .release .ensures,
       at-one-less .one-less .ensures,
       at-put-next .put-next .ensures,
-      at-put-record .put-record .ensures,
+      at-put-ring-record .put-ring-record .ensures,
       at-write-ring .write-ring .ensures,
       at-slot-at .slot-at .ensures,
     )
@@ -88,12 +71,7 @@ give-ring-spec =
     cast-write-ring
     mul-write-ring
     write-ring-requires
-    cast-put-record
-    mul-put-record
-    cast-put-record-2
-    cast-put-record-3
-    add-put-record
-    put-record-requires
+    put-ring-record-requires
     put-next-requires
     one-less-requires
     release-requires

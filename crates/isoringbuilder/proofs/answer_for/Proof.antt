@@ -26,7 +26,7 @@ returns-2 c =
     let start = called .before in
     rw (
       le-ltb (start .args .points) (pointWords (start .args .segments) (start .args .rings)) (omega (arith, called .point-words .ensures)),
-      lt-ltb (4 * start .args .room) (4 * start .args .rings) (omega arith),
+      lt-ltb (6 * start .args .room) (6 * start .args .rings) (omega arith),
     )
 
 returns-3 : tie.Need-returns-3
@@ -36,7 +36,7 @@ returns-3 c =
     let start = called .before in
     rw (
       le-ltb (start .args .points) (pointWords (start .args .segments) (start .args .rings)) (omega (arith, called .point-words .ensures)),
-      le-ltb (4 * start .args .room) (4 * start .args .rings) (omega arith),
+      le-ltb (6 * start .args .room) (6 * start .args .rings) (omega arith),
     )
 
 pub answer-for-spec : {M : Type 1} → statement M

@@ -16,14 +16,14 @@ enum-known-refusal c = search needs
 enum-known-drawing : tie.Need-enum-known-drawing
 enum-known-drawing c = search needs
 
-cast-pack : tie.Need-cast-pack
-cast-pack c =
+cast-pack-whole : tie.Need-cast-pack-whole
+cast-pack-whole c =
     let start = c .before .before .before .before .before .before .before .before .before .before .before .before .before .before .before in
     let facts = done-facts _ _ _ _ _ _ _ _ (c .before .drawing .given .1) _ _ (c .before .before .before .before .before .before .before .run-pass .ensures) in
     omega (arith, columns-fit (start .args .values .now) (start .args .level) _ _ (facts .sized))
 
-pack-requires : tie.Need-pack-requires
-pack-requires c κs = search needs
+pack-whole-requires : tie.Need-pack-whole-requires
+pack-whole-requires c κs = search needs
 
 open-words-requires : tie.Need-open-words-requires
 open-words-requires c κs = done-facts _ _ _ _ _ _ _ _ (c .before .before .before .before .before .before .before .before .before .before .drawing .given .1) _ _ (c .before .before .before .before .before .before .before .before .before .before .before .before .before .before .before .before .run-pass .ensures) .sized .columns
@@ -62,7 +62,7 @@ returns-2 : tie.Need-returns-2
 returns-2 c =
     let facts = done-facts _ _ _ _ _ _ _ _ (c .before .before .before .before .before .before .before .before .before .before .before .before .before .before .before .before .before .before .before .drawing .given .1) _ _ (c .before .before .before .before .before .before .before .before .before .before .before .before .before .before .before .before .before .before .before .before .before .before .before .before .before .run-pass .ensures) in
     rw (c .before .before .before .before .before .before .before .clear .ensures, c .before .before .before .before .before .before .before .before .open-words .ensures, c .before .before .clear2 .ensures, c .before .before .before .link-words .ensures)
-    (built-done _ _ _ _ _ _ _ _ _ facts _ _ _ _ _ (c .before .before .before .before .before .before .before .before .before .before .before .before .before .before .pack .ensures))
+    (built-done _ _ _ _ _ _ _ _ _ facts _ _ _ _ _ (c .before .before .before .before .before .before .before .before .before .before .before .before .before .before .pack-whole .ensures))
 
 pub contour-rings-spec : {M : Type 1} → statement M
 contour-rings-spec =
@@ -71,8 +71,8 @@ contour-rings-spec =
     run-pass-requires
     enum-known-refusal
     enum-known-drawing
-    cast-pack
-    pack-requires
+    cast-pack-whole
+    pack-whole-requires
     open-words-requires
     clear-requires
     link-words-requires

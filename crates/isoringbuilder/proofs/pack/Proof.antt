@@ -1,6 +1,6 @@
 -- `isoringbuilder::pack` meets its contract: the answer says whether the outputs are spared or the walk along the links stores them. Assumes nothing.
 use Rattle.scope.specs.Limits.{recordStride}
-use Rattle.isoringbuilder.proofs.Packing.{spared, stored, as-packed}
+use Rattle.isoringbuilder.proofs.Packing.{shortRecords, spared, stored, as-packed}
 use borrow.Author.Needs.{needs}
 use Rattle.isoringbuilder.proofs.pack.Statement.{statement}
 use Rattle.isoringbuilder.proofs.pack.Tie as tie
@@ -16,7 +16,7 @@ enum-told-2 c = search needs
 
 returns : tie.Need-returns
 unfolding recordStride
-returns c = as-packed (spared _ _ _ _ _ _ (c .before .before .answer-for .ensures) _ (c .enum-told2 .given .1))
+returns c = as-packed (spared _ shortRecords _ _ _ _ _ (c .before .before .answer-for .ensures) _ (c .enum-told2 .given .1))
 
 write-rings-requires : tie.Need-write-rings-requires
 write-rings-requires c κs = search needs
@@ -33,7 +33,7 @@ returns-2 c =
     let at-write = c .before .before .before .before in
     let at-rings = at-write .before .before .before in
     let walked = at-write .write-rings .ensures in
-    rw (walked .0, walked .1) (as-packed (stored _ _ _ _ _ _ (at-rings .before .before .answer-for .ensures) _ (at-rings .enum-told .given .1)))
+    rw (walked .0, walked .1) (as-packed (stored _ shortRecords _ _ _ _ _ (at-rings .before .before .answer-for .ensures) _ (at-rings .enum-told .given .1)))
 
 pub pack-spec : {M : Type 1} → statement M
 pack-spec =

@@ -1,23 +1,15 @@
 -- `plotting::put_vertex` meets its contract: the two stores are those of the vertex's words, and past the end both store nothing. Assumes nothing.
 use mathlib.Core.Path.{sym}
+use mathlib.Core.List.{[], _∷_}
 use native.Mathlib.Numerals.{add-one}
 use borrow.Author.Needs.{needs}
+use Rattle.scope.specs.Smoothing.{lineVertex}
 use Rattle.scope.specs.Tables.{vertexWords}
-use Rattle.machine.specs.Machine.{linkPoint}
 use Rattle.packing.proofs.Laws.{stores-past-the-end}
 use Rattle.smoothing.specs.Values.{placingOf, vertexOf}
-use Rattle.plotting.specs.Plot.{vertexAt}
+use Rattle.plotting.specs.Plot.{pointOf}
 use Rattle.plotting.proofs.put_vertex.Statement.{statement}
 use Rattle.plotting.proofs.put_vertex.Tie as tie
-
-mul-word : tie.Need-mul-word
-mul-word c = search needs
-
-word-requires : tie.Need-word-requires
-word-requires c κs = search needs
-
-indexed-point-requires : tie.Need-indexed-point-requires
-indexed-point-requires c κs = search needs
 
 line-vertex-requires : tie.Need-line-vertex-requires
 line-vertex-requires c κs = search needs
@@ -35,33 +27,18 @@ same-length : tie.Need-same-length
 same-length c = search needs
 
 returns : tie.Need-returns
-unfolding vertexAt vertexWords vertexOf linkPoint
+unfolding vertexWords vertexOf
 returns c =
     let at-y = c .before .before in
     let at-x = at-y .before .before .before .before in
     let at-vertex = at-x .before .before .before in
-    let at-point = at-vertex .before in
-    let at-word = at-point .before in
-    let args = at-word .before .before .before .before .args in
-    let vertex = rw (at-point .indexed-point .ensures .0, at-point .indexed-point .ensures .1, at-word .word .ensures) at (at-vertex .line-vertex .ensures) in
-    rw (at-y .put-real2 .ensures, at-x .put-real .ensures, add-one (args .at), ← vertex)
+    let args = at-vertex .before .before .before .args in
+    rw (at-y .put-real2 .ensures, at-x .put-real .ensures, add-one (args .at), ← at-vertex .line-vertex .ensures)
 
 returns-2 : tie.Need-returns-2
 returns-2 c =
-    let args = c .before .before .before .before .before .before .before .args in
-    sym (stores-past-the-end _ _ (vertexAt (args .smooth) (args .values .now) (args .level .threshold) (args .dx) (args .dy) (placingOf (args .placement)) (args .links .now) (args .k)) (c .if1 .left))
+    let args = c .before .before .before .before .args in
+    sym (stores-past-the-end _ _ (vertexWords (lineVertex (args .smooth) (args .values .now) (args .level .threshold) (args .dx) (args .dy) (placingOf (args .placement)) (pointOf (args .point)) ∷ [])) (c .if1 .left))
 
 pub put-vertex-spec : {M : Type 1} → statement M
-put-vertex-spec =
-    tie.close
-    (tie.spec
-    mul-word
-    word-requires
-    indexed-point-requires
-    line-vertex-requires
-    put-real-requires
-    add-put-real
-    put-real-requires-2
-    same-length
-    returns
-    returns-2)
+put-vertex-spec = tie.close (tie.spec line-vertex-requires put-real-requires add-put-real put-real-requires-2 same-length returns returns-2)

@@ -5,7 +5,7 @@ use mathlib.Core.Path.{_∙_}
 use native.Mathlib.Omega.{arith}
 use borrow.Author.Needs.{needs}
 use Rattle.scope.specs.Band.{numberedFrom, sorted}
-use Rattle.regions.specs.Regions.{countedRings, sortedRecords}
+use Rattle.regions.specs.Regions.{countedRings, sortedBy}
 use Rattle.regions.proofs.Arranged.{Arranged, rings-there, numbers-permute, arranged-measurable, classed-alone, still-filed}
 use Rattle.regions.proofs.Regions.{low-arranged, band-arranged, band-written}
 use Rattle.regions.proofs.own_band.Statement.{statement}
@@ -72,7 +72,7 @@ same-length-2 c =
     at-file .file .kept .1 .1 .1 .0 ∙ at-sort2 .sort-first2 .kept .1 .1 .0 ∙ at-sort .sort-first .kept .1 .1 .0
 
 returns : tie.Need-returns
-unfolding sortedRecords
+unfolding sortedBy
 returns c =
     let at-own = c .before .before in
     let at-class = at-own .before .before .before .before .before in

@@ -131,7 +131,7 @@ module _ {M : Type 1} (𝓤 : URA M) (H : Heap 𝓤) (A : Atoms 𝓤) (W : Given
         assigns ! (un ! (var ! (L 4 5) refl) (record { fits = wide })) (from ! (stop !)) (init ! (L 4 10) refl (tt, record { fits = wide })) $
         assigns ! (bin ! (var ! (L 4 10) refl) (lit ! tt) (record { fits = fits kind (are .1 .1 .0 .0 .1) (there less) })) (from ! (stop !)) (init ! (L 4 11) refl (tt, record { fits = fits kind (are .1 .1 .0 .0 .1) (there less) })) $
         assigns ! (bin ! (load ! (from ! (fld ! refl (stop !))) (look-in ! (L 4 3) (sub ! 0 refl (whole !)))) (var ! (L 4 11) refl) tt) (from ! (stop !)) (init ! (L 4 12) refl (tt, tt)) $
-        re-points ! (L 4 12) (sym (place-is 16 (recs .ptr .1) (i .0))) refl $
+        re-points ! (L 4 12) (sym (place-is 24 (recs .ptr .1) (i .0))) refl $
         opens-at ! tt kind (named 1) recs (done-at (i .0)) (slice-vals recs) (i .0) r (within less) (λ p _.
         assigns ! (of-opd ! (var ! (L 8 6) refl)) (from ! (hop ! (look ! (L 8 12) refl) (stop !))) (store-raw ! 0 refl (kind .lawful 𝓤 H A W .typed r _ is .0)) $
         closes-at ! tt kind (named 1) recs (done-at (i .0)) (slice-vals recs) (i .0) r r (within less) p is $

@@ -127,7 +127,7 @@ module _ {M : Type 1} (𝓤 : URA M) (H : Heap 𝓤) (A : Atoms 𝓤) (W : Given
         assigns ! (un ! (var ! (L 4 5) refl) (record { fits = wide })) (from ! (stop !)) (init ! (L 4 10) refl (tt, record { fits = wide })) $
         assigns ! (bin ! (var ! (L 4 10) refl) (lit ! tt) (record { fits = fits kind (are .0 .0 .1) (there less) })) (from ! (stop !)) (init ! (L 4 11) refl (tt, record { fits = fits kind (are .0 .0 .1) (there less) })) $
         assigns ! (bin ! (load ! (from ! (fld ! refl (stop !))) (look-in ! (L 4 1) (sub ! 0 refl (whole !)))) (var ! (L 4 11) refl) tt) (from ! (stop !)) (init ! (L 4 12) refl (tt, tt)) $
-        re-points ! (L 4 12) (sym (place-is 16 (recs .ptr .1) (i .0))) refl $
+        re-points ! (L 4 12) (sym (place-is 24 (recs .ptr .1) (i .0))) refl $
         looks-at ! tt kind (named 0) recs (slice-vals recs) (i .0) nowhere (there less) (λ q′ is.
         assigns ! (of-opd ! (load ! (from ! (hop ! (look ! (L 7 12) refl) (stop !))) (look-raw ! 0 refl))) (from ! (stop !)) (init ! (L 7 13) refl (kind .lawful 𝓤 H A W .typed r _ is .0)) $
         shuts-at ! tt kind (named 0) recs (slice-vals recs) (i .0) nowhere (there less) q′ $

@@ -2,7 +2,7 @@
 use native.Mathlib.Omega.{arith}
 use borrow.Author.Needs.{needs}
 use Rattle.scope.specs.Limits.{pointLimit}
-use Rattle.ringset.proofs.Judged.{too-few, too-many, outside, too-high, not-closed, class-decides}
+use Rattle.ringset.proofs.Judged.{too-few, too-many, outside, too-high, not-closed, another-area, class-decides}
 use Rattle.ringset.proofs.shape_faulty.Statement.{statement}
 use Rattle.ringset.proofs.shape_faulty.Tie as tie
 
@@ -43,12 +43,12 @@ part-ring-start c = search needs
 part-ring-end : tie.Need-part-ring-end
 part-ring-end c = search needs
 
-coordinate-over-requires : tie.Need-coordinate-over-requires
-coordinate-over-requires c κs = search needs
+measure-requires : tie.Need-measure-requires
+measure-requires c κs = search needs
 
 returns-4 : tie.Need-returns-4
 unfolding pointLimit
-returns-4 c = too-high _ _ (omega arith) (omega arith) (omega arith) (c .before .coordinate-over .ensures) (c .if4 .taken)
+returns-4 c = too-high _ _ (omega arith) (omega arith) (omega arith) (c .before .measure .ensures) (c .if4 .taken)
 
 unclosed-requires : tie.Need-unclosed-requires
 unclosed-requires c κs = search needs
@@ -57,14 +57,27 @@ returns-5 : tie.Need-returns-5
 unfolding pointLimit
 returns-5 c =
     let walked = c .before .before in
-    not-closed _ _ (omega arith) (omega arith) (omega arith) (walked .before .coordinate-over .ensures) (walked .if4 .left) (c .before .unclosed .ensures) (c .if5 .taken)
+    not-closed _ _ (omega arith) (omega arith) (omega arith) (walked .before .measure .ensures) (walked .if4 .left) (c .before .unclosed .ensures) (c .if5 .taken)
+
+area-differs-requires : tie.Need-area-differs-requires
+area-differs-requires c κs = search needs
 
 returns-6 : tie.Need-returns-6
 unfolding pointLimit
 returns-6 c =
-    let closed = c .before in
+    let closed = c .before .before in
     let walked = closed .before .before in
-    class-decides _ _ (omega arith) (omega arith) (omega arith) (walked .before .coordinate-over .ensures) (walked .if4 .left) (closed .before .unclosed .ensures) (closed .if5 .left)
+    another-area _ _ (omega arith) (omega arith) (omega arith) (walked .before .measure .ensures) (walked .if4 .left) (closed .before .unclosed .ensures) (closed .if5 .left)
+    (c .before .area-differs .ensures) (c .if6 .taken)
+
+returns-7 : tie.Need-returns-7
+unfolding pointLimit
+returns-7 c =
+    let measured = c .before in
+    let closed = measured .before .before in
+    let walked = closed .before .before in
+    class-decides _ _ (omega arith) (omega arith) (omega arith) (walked .before .measure .ensures) (walked .if4 .left) (closed .before .unclosed .ensures) (closed .if5 .left)
+    (measured .before .area-differs .ensures) (measured .if6 .left)
 
 pub shape-faulty-spec : {M : Type 1} → statement M
 shape-faulty-spec =
@@ -82,8 +95,10 @@ shape-faulty-spec =
     sub-ring
     part-ring-start
     part-ring-end
-    coordinate-over-requires
+    measure-requires
     returns-4
     unclosed-requires
     returns-5
-    returns-6)
+    area-differs-requires
+    returns-6
+    returns-7)

@@ -2,6 +2,7 @@
 use mathlib.Core.Path.{_∙_}
 use native.Mathlib.Omega.{arith}
 use borrow.Author.Needs.{needs}
+use Rattle.scope.specs.Limits.{recordStride}
 use Rattle.rows.specs.Called.{refusedBy}
 use Rattle.rows.proofs.Calls.{short-at-once, refused-after, taken-after}
 use Rattle.rows.proofs.advance.Statement.{statement}
@@ -44,6 +45,7 @@ same-length-2 : tie.Need-same-length-2
 same-length-2 c = search needs
 
 returns-2 : tie.Need-returns-2
+unfolding recordStride
 returns-2 c =
     let at-restore = c .before .before in
     let at-told = at-restore .before .before .before in
@@ -71,6 +73,7 @@ same-length-6 : tie.Need-same-length-6
 same-length-6 c = search needs
 
 returns-3 : tie.Need-returns-3
+unfolding recordStride
 returns-3 c =
     let at-draw = c .before .before .before .before .before .before .before .before in
     let at-rings = at-draw .before .before .before .before .before .before in

@@ -1,0 +1,2 @@
+-- The area of a ring that a record names.
+pub mod Ringed

@@ -1,0 +1,2 @@
+-- What spreading records out leaves.
+pub mod Spread
