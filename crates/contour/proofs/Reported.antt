@@ -30,7 +30,7 @@ pub record ReportedRoom {Word : Type 0} (dx s r h p : ℕ) (lines links : List �
   pub lines-just : length lines ≡ 4 * h + dx + 2
   pub links-just : length links ≡ 2 * s
   pub points-just : length points ≡ 2 * p
-  pub directory-just : length directory ≡ 4 * r
+  pub directory-just : length directory ≡ 6 * r
 
 -- the reported numbers are those of a build: it fits, and they come to its rings and its needs
 record Told {Word : Type 0} (plan : Plan Word) (dx s r h p : ℕ) : Type 0 where
@@ -39,7 +39,7 @@ record Told {Word : Type 0} (plan : Plan Word) (dx s r h p : ℕ) : Type 0 where
   open-is : plan .openNeed ≡ 4 * h + dx + 2
   links-is : plan .linkNeed ≡ 2 * s
   points-is : plan .pointNeed ≡ 2 * p
-  directory-is : plan .directoryNeed ≡ 4 * r
+  directory-is : plan .directoryNeed ≡ 6 * r
 
 tells : {Word : Type 0} {plan : Plan Word} {dx s r h p S R H P : ℕ} {lines links lines′ links′ : List ℕ}
     → Worked second-is.Refused (second-is.Room S R H P) (plan .fit) (plan .openNeed) (plan .linkNeed) passes lines links (second-is.Room s r h p) lines′ links′

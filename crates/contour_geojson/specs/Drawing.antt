@@ -29,7 +29,7 @@ pub record Roomy (lines links points directory text : List ℕ) : Type 0 where
   pub lines-room : 102 ≤ length lines
   pub links-room : 4224 ≤ length links
   pub points-room : 5280 ≤ length points
-  pub directory-room : 2112 ≤ length directory
+  pub directory-room : 3168 ≤ length directory
   pub text-room : textRoom ≤ length text
 
 -- a ring set that the writer takes, and room for its text

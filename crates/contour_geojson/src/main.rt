@@ -28,7 +28,7 @@ const LINKS: usize = 4224;
 
 const POINTS: usize = 5280;
 
-const DIRECTORY: usize = 2112;
+const DIRECTORY: usize = 3168;
 
 // The bytes of the text: 18 a point, 4 a ring and 40 are fewer (`text-within`).
 const TEXT: usize = 65536;

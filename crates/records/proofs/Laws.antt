@@ -72,16 +72,16 @@ module _ (words records rings : ℕ) where
   unfolding lentWords directoryWords recordStride
   short-exactly = (there, back)
     where
-      there : Short words records rings → min words (4 * records) < 4 * rings
+      there : Short words records rings → min words (6 * records) < 6 * rings
       there (words-short h) = omega arith
       there (records-short h) = omega arith
 
-      back : min words (4 * records) < 4 * rings → Short words records rings
-      back h = by (ltb words (4 * rings)) refl
+      back : min words (6 * records) < 6 * rings → Short words records rings
+      back h = by (ltb words (6 * rings)) refl
         where
-          by : (b : Bool) → ltb words (4 * rings) ≡ b → Short words records rings
-          by true e = words-short (ltb-true words (4 * rings) e)
-          by false e = let long = ltb-false words (4 * rings) e in records-short (omega arith)
+          by : (b : Bool) → ltb words (6 * rings) ≡ b → Short words records rings
+          by true e = words-short (ltb-true words (6 * rings) e)
+          by false e = let long = ltb-false words (6 * rings) e in records-short (omega arith)
 
   pub enough-exactly : ((directoryWords rings ≤ words) × (rings ≤ records)) ↔ (directoryWords rings ≤ lentWords words records)
   unfolding lentWords directoryWords recordStride
@@ -227,12 +227,12 @@ module _ (rings : ℕ) (records : List RingRecord) (words : List ℕ) where
     nothing-there = by short
       where
         by : Short (length words) (length records) rings → (length (wordsFrom rings records words) ≡ 0) × (0 < rings)
-        by (words-short h) = (rw (lt-ltb (length words) (4 * rings) h), omega arith)
+        by (words-short h) = (rw (lt-ltb (length words) (6 * rings) h), omega arith)
         by (records-short h) = (rw (lt-ltb (length records) rings h, and-false), omega arith)
 
     pub no-room-is-refused : ringSetRefused ps (wordsFrom rings records words) rings ≡ true
     unfolding ringSetRefused directoryShort directoryWords recordStride
-    no-room-is-refused = rw (lt-ltb (length (wordsFrom rings records words)) (4 * rings) (omega (arith, nothing-there .0, nothing-there .1)))
+    no-room-is-refused = rw (lt-ltb (length (wordsFrom rings records words)) (6 * rings) (omega (arith, nothing-there .0, nothing-there .1)))
 
     pub no-length-without-room : lengthAnswer ps (wordsFrom rings records words) rings ≡ text-is.Refused BadRingSet
     unfolding lengthAnswer

@@ -76,27 +76,27 @@ over-records Words {n} {m} {room} {words} {words′} {records} over as-many same
 -- of contour_rings, contour_lines and contours
 pub rings-fit : (v : Verdict) (A : Sheet) (dx dy points directory : ℕ) {answer : Built} → answer ≡ built v (outputVerdict A dx dy points directory) A dx dy → directoryWords (ringsIn answer) ≤ directory
 unfolding built outputVerdict roomVerdict ringsIn directoryWords recordStride
-rings-fit v A dx dy points directory is = rw is (by v (ltb points (pointWords (segmentCount A dx dy) (ringCount A dx dy))) (ltb directory (4 * ringCount A dx dy)) refl)
+rings-fit v A dx dy points directory is = rw is (by v (ltb points (pointWords (segmentCount A dx dy) (ringCount A dx dy))) (ltb directory (6 * ringCount A dx dy)) refl)
   where
-    by : (v : Verdict) (b c : Bool) → ltb directory (4 * ringCount A dx dy) ≡ c →
-        4 * ringsIn (built v (cond b (refused PointsShort) (cond c (refused DirectoryShort) passes)) A dx dy) ≤ directory
+    by : (v : Verdict) (b c : Bool) → ltb directory (6 * ringCount A dx dy) ≡ c →
+        6 * ringsIn (built v (cond b (refused PointsShort) (cond c (refused DirectoryShort) passes)) A dx dy) ≤ directory
     by (refused why) b c e = omega arith
     by passes true c e = omega arith
     by passes false true e = omega arith
-    by passes false false e = ltb-false directory (4 * ringCount A dx dy) e
+    by passes false false e = ltb-false directory (6 * ringCount A dx dy) e
 
 -- of isobands
 pub band-rings-fit : (v : Verdict) (L U : Sheet) (dx dy points directory : ℕ) {answer : Built} → answer ≡ bandBuilt v (bandOutputs L U dx dy points directory) L U dx dy → directoryWords (ringsIn answer) ≤ directory
 unfolding bandBuilt bandOutputs bandRoom bandDirectoryWords ringsIn directoryWords recordStride
 band-rings-fit v L U dx dy points directory is =
-    rw is (by v (ltb points (bandPointWords (segmentCount L dx dy) (ringCount L dx dy) (segmentCount U dx dy) (ringCount U dx dy))) (ltb directory (4 * (ringCount L dx dy + ringCount U dx dy))) refl)
+    rw is (by v (ltb points (bandPointWords (segmentCount L dx dy) (ringCount L dx dy) (segmentCount U dx dy) (ringCount U dx dy))) (ltb directory (6 * (ringCount L dx dy + ringCount U dx dy))) refl)
   where
-    by : (v : Verdict) (b c : Bool) → ltb directory (4 * (ringCount L dx dy + ringCount U dx dy)) ≡ c →
-        4 * ringsIn (bandBuilt v (cond b (refused PointsShort) (cond c (refused DirectoryShort) passes)) L U dx dy) ≤ directory
+    by : (v : Verdict) (b c : Bool) → ltb directory (6 * (ringCount L dx dy + ringCount U dx dy)) ≡ c →
+        6 * ringsIn (bandBuilt v (cond b (refused PointsShort) (cond c (refused DirectoryShort) passes)) L U dx dy) ≤ directory
     by (refused why) b c e = omega arith
     by passes true c e = omega arith
     by passes false true e = omega arith
-    by passes false false e = ltb-false directory (4 * (ringCount L dx dy + ringCount U dx dy)) e
+    by passes false false e = ltb-false directory (6 * (ringCount L dx dy + ringCount U dx dy)) e
 
 -- ---- the words that a reader is lent
 
