@@ -204,10 +204,10 @@ fn pack_whole(
     ensures { λ r. ⌜ PackedWhole drawing dx (now (links .entry)) (now (points .entry)) (now (directory .entry)) r (now (points .exit)) (now (directory .exit)) ⌝ }
 {
     let answer = pack(drawing, dx, links, points, directory);
-    let Built::Rings(rings) = answer else {
+    let Built::Rings(drawn) = answer else {
         return answer;
     };
-    spread(points, directory, rings as usize);
+    spread(points, directory, drawn as usize);
     answer
 }
 
