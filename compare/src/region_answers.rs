@@ -17,7 +17,7 @@ const RANDOM: usize = 72;
 /// Stands for the owner of a ring that has none, 4,294,967,295: no number of a text has more digits.
 const NOBODY: u32 = 99_999_999;
 /// Stands for an area of 0, as no number of a text has a sign.
-const NO_AREA: i64 = 50_000_000;
+const NO_AREA: i64 = 50_000;
 
 /// A terrain of heights 0 to 9, and two thresholds: the contour's, which is the band's lower one, and the
 /// band's upper one.
