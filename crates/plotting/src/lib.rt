@@ -112,17 +112,7 @@ pub fn write_lines(
     let mut left = count;
     while 0 < left {
         left -= 1;
-        put_vertex(
-            values,
-            level,
-            dx,
-            dy,
-            smooth,
-            placement,
-            point,
-            points,
-            at,
-        );
+        put_vertex(values, level, dx, dy, smooth, placement, point, points, at);
         at += 2;
         let next = next_link(links, k);
         if next < MARK {
@@ -134,17 +124,7 @@ pub fn write_lines(
             point = to;
         } else {
             let begin = start_of(links, dx, first);
-            put_vertex(
-                values,
-                level,
-                dx,
-                dy,
-                smooth,
-                placement,
-                begin,
-                points,
-                at,
-            );
+            put_vertex(values, level, dx, dy, smooth, placement, begin, points, at);
             at += 2;
             let ring_points = size + 2;
             let whole = stepped(area, point, begin);

@@ -90,7 +90,7 @@ returns c =
     let left = c .before .loop-test .left in (
       none-left inv left,
       wrapped-difference (at-loop .loop .gained) (at-loop .loop .lost) _ (omega arith) (omega (arith, c .wrapping-sub-u64 .ensures))
-      ∙ ap twosComplement (sym (sums-end (inv .sums) left)),
+          ∙ ap twosComplement (sym (sums-end (inv .sums) left)),
     )
 
 pub measure-spec : {M : Type 1} → statement M
