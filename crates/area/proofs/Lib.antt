@@ -2,5 +2,6 @@
 pub mod Words
 pub mod Differences
 pub mod Sums
+pub mod Summing
 pub mod Crossing
 pub mod Walks

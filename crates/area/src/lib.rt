@@ -5,11 +5,13 @@ use limits::COORDINATE_LIMIT;
 use limits::POINT_LIMIT;
 ghost use mathlib.Core.Path.{_≡_};
 ghost use mathlib.Core.Bool.{cond};
-ghost use Prim.Native.Nat.{_+_, _*_, _^_, _<_};
+ghost use Prim.Native.Nat.{_+_, _*_, _%_, _^_, _<_};
 ghost use lib.Dec.{eqb};
+ghost use lib.ListN.{length};
 ghost use Rattle.scope.specs.Area.{faultyWords, areaRefused};
 ghost use Rattle.scope.specs.Containment.{between, onPair, flips};
 ghost use Rattle.area.specs.Answers.{areaAnswer, containsAnswer};
+ghost use Rattle.area.specs.Summed.{SummedUp};
 
 // What `area` answers.
 pub enum AreaAnswer {
@@ -62,10 +64,42 @@ fn no_ring(words: &[u16]) -> bool
 }
 
 // The whole product of two coordinates.
-pub fn product(a: u16, b: u16) -> u64
+fn product(a: u16, b: u16) -> u64
     ensures { λ r. ⌜ (r ≡ a * b) × (r < 2 ^ 32) ⌝ }
 {
     (a as u64) * (b as u64)
+}
+
+// What one walk over a ring's words finds: whether a coordinate is above the limit, and two sums, whose difference is the area.
+pub struct RingSums {
+    pub over: bool,
+    pub gained: u64,
+    pub lost: u64,
+}
+
+// Walks over the words of a ring once.
+pub fn sum_up(ring: &[u16]) -> RingSums
+    requires { ⌜ (length (now ring) % 2 ≡ 0) × (0 < length (now ring)) × (length (now ring) < 2 ^ 33) ⌝ }
+    ensures { λ r. ⌜ SummedUp (now (ring .entry)) r ⌝ }
+{
+    let n = ring.len();
+    let mut x = ring[n - 2];
+    let mut y = ring[n - 1];
+    let mut gained: u64 = 0;
+    let mut lost: u64 = 0;
+    let mut over = false;
+    let mut i = 0;
+    while i < n {
+        let next_x = ring[i];
+        let next_y = ring[i + 1];
+        over = over | (COORDINATE_LIMIT < next_x) | (COORDINATE_LIMIT < next_y);
+        gained += product(y, next_x);
+        lost += product(x, next_y);
+        x = next_x;
+        y = next_y;
+        i += 2;
+    }
+    RingSums { over, gained, lost }
 }
 
 // The signed area of a ring, or the refusal of words that are no ring.
@@ -75,22 +109,8 @@ pub fn area(ring: &[u16]) -> AreaAnswer
     if no_ring(ring) {
         return AreaAnswer::Refused(Refusal::BadRing);
     }
-    let n = ring.len();
-    let mut x = ring[n - 2];
-    let mut y = ring[n - 1];
-    let mut gained: u64 = 0;
-    let mut lost: u64 = 0;
-    let mut i = 0;
-    while i < n {
-        let next_x = ring[i];
-        let next_y = ring[i + 1];
-        gained += product(y, next_x);
-        lost += product(x, next_y);
-        x = next_x;
-        y = next_y;
-        i += 2;
-    }
-    let signed = gained as i64 - lost as i64;
+    let sums = sum_up(ring);
+    let signed = sums.gained as i64 - sums.lost as i64;
     AreaAnswer::Area(signed)
 }
 

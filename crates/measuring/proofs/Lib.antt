@@ -1,3 +1,2 @@
 -- The laws that the proofs of this crate share.
 pub mod Complement
-pub mod Walked

@@ -1,7 +1,6 @@
 // The area of a ring as a record holds it, by one walk over the ring's points that looks for a coordinate above the limit too.
-use area::product;
+use area::sum_up;
 use lent::put;
-use limits::COORDINATE_LIMIT;
 use std::num::wrapping_add_u64;
 use std::num::wrapping_sub_u64;
 ghost use mathlib.Core.Path.{_≡_};
@@ -26,25 +25,12 @@ pub fn measure(ring: &[u16]) -> Found
     requires { ⌜ (length (now ring) % 2 ≡ 0) × (0 < length (now ring)) × (length (now ring) < 2 ^ 33) ⌝ }
     ensures { λ r. ⌜ (r .over ≡ anyAbove coordinateLimit (now (ring .entry))) × (r .area ≡ twosComplement (area (points (now (ring .entry))))) ⌝ }
 {
-    let n = ring.len();
-    let mut x = ring[n - 2];
-    let mut y = ring[n - 1];
-    let mut gained: u64 = 0;
-    let mut lost: u64 = 0;
-    let mut over = false;
-    let mut i = 0;
-    while i < n {
-        let next_x = ring[i];
-        let next_y = ring[i + 1];
-        over = over | (COORDINATE_LIMIT < next_x) | (COORDINATE_LIMIT < next_y);
-        gained += product(y, next_x);
-        lost += product(x, next_y);
-        x = next_x;
-        y = next_y;
-        i += 2;
+    let sums = sum_up(ring);
+    let area = wrapping_sub_u64(sums.gained, sums.lost);
+    Found {
+        over: sums.over,
+        area,
     }
-    let area = wrapping_sub_u64(gained, lost);
-    Found { over, area }
 }
 
 // The signed area, in two's complement, of the ring of `count` points from point `first` on, and 0 where the points do not reach so far.

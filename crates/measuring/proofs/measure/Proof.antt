@@ -1,122 +1,24 @@
--- `measuring::measure` meets its contract. The loop's invariant is `Walked`; the measure is what is left of the length. Assumes nothing.
-use mathlib.Core.Path.{_≡_, sym, ap, _∙_}
-use Prim.Native.Nat.{_-_}
+-- `measuring::measure` meets its contract: the difference of the two sums, modulo 2^64, is the area in two's complement. Assumes nothing.
+use mathlib.Core.Path.{sym, ap, _∙_}
 use native.Mathlib.Omega.{arith}
-use lib.ListN.{length}
 use borrow.Author.Needs.{needs}
 use Rattle.scope.specs.Area.{twosComplement}
-use Rattle.scope.specs.Limits.{coordinateLimit}
-use Rattle.area.proofs.Sums.{sums-end}
-use Rattle.area.proofs.Words.{lastPoint}
 use Rattle.measuring.proofs.Complement.{wrapped-difference}
-use Rattle.measuring.proofs.Walked.{Walked, walked-begin, walked-next, none-left}
 use Rattle.measuring.proofs.measure.Statement.{statement}
 use Rattle.measuring.proofs.measure.Tie as tie
 
-abbrev Inv-loop : tie.InvT-loop
-Inv-loop ring n x₀ y₀ gained₀ lost₀ over₀ i₀ x y gained lost over i = Walked ring x y gained lost over i
+sum-up-requires : tie.Need-sum-up-requires
+sum-up-requires c κs = search needs
 
-abbrev μ-loop : tie.MeasureT-loop
-μ-loop ring n x₀ y₀ gained₀ lost₀ over₀ i₀ x y gained lost over i = length ring - i
-
-sub-x : tie.Need-sub-x Inv-loop μ-loop
-sub-x c = omega arith
-
-mul-x : tie.Need-mul-x Inv-loop μ-loop
-mul-x c = omega arith
-
-shared-slice-read-x : tie.Need-shared-slice-read-x Inv-loop μ-loop
-shared-slice-read-x c = omega arith
-
-sub-y : tie.Need-sub-y Inv-loop μ-loop
-sub-y c = omega arith
-
-mul-y : tie.Need-mul-y Inv-loop μ-loop
-mul-y c = omega arith
-
-shared-slice-read-y : tie.Need-shared-slice-read-y Inv-loop μ-loop
-shared-slice-read-y c = omega arith
-
-loop-holds : tie.Need-loop-holds Inv-loop μ-loop
-unfolding lastPoint
-loop-holds c = let pre = c .before .before .before .pre in walked-begin _ (pre .0) (pre .1) (pre .2)
-
-mul-next-x : tie.Need-mul-next-x Inv-loop μ-loop
-mul-next-x c = omega arith
-
-shared-slice-read-next-x : tie.Need-shared-slice-read-next-x Inv-loop μ-loop
-shared-slice-read-next-x c = omega arith
-
-add-next-y : tie.Need-add-next-y Inv-loop μ-loop
-add-next-y c = omega arith
-
-mul-next-y : tie.Need-mul-next-y Inv-loop μ-loop
-mul-next-y c = omega arith
-
-shared-slice-read-next-y : tie.Need-shared-slice-read-next-y Inv-loop μ-loop
-shared-slice-read-next-y c = omega arith
-
-product-requires : tie.Need-product-requires Inv-loop μ-loop
-product-requires c κs = search needs
-
-add-gained : tie.Need-add-gained Inv-loop μ-loop
-add-gained c = omega arith
-
-product-requires-2 : tie.Need-product-requires-2 Inv-loop μ-loop
-product-requires-2 c κs = search needs
-
-add-lost : tie.Need-add-lost Inv-loop μ-loop
-add-lost c = omega arith
-
-add-i : tie.Need-add-i Inv-loop μ-loop
-add-i c = omega arith
-
-loop-less : tie.Need-loop-less Inv-loop μ-loop
-loop-less c = omega arith
-
-loop-again : tie.Need-loop-again Inv-loop μ-loop
-unfolding coordinateLimit
-loop-again c =
-    let turn = c .before .before .before .before in
-    walked-next (turn .before .loop .inv) (turn .loop-test .taken) (c .before .product .ensures) (c .product2 .ensures)
-
-wrapping-sub-u64-requires : tie.Need-wrapping-sub-u64-requires Inv-loop μ-loop
+wrapping-sub-u64-requires : tie.Need-wrapping-sub-u64-requires
 wrapping-sub-u64-requires c κs = search needs
 
-returns : tie.Need-returns Inv-loop μ-loop
+returns : tie.Need-returns
 returns c =
-    let at-loop = c .before .before in
-    let inv = at-loop .loop .inv in
-    let left = c .before .loop-test .left in (
-      none-left inv left,
-      wrapped-difference (at-loop .loop .gained) (at-loop .loop .lost) _ (omega arith) (omega (arith, c .wrapping-sub-u64 .ensures))
-          ∙ ap twosComplement (sym (sums-end (inv .sums) left)),
+    let sums = c .before .sum-up in (
+      sums .ensures .over-is,
+      wrapped-difference (sums .result .gained) (sums .result .lost) _ (omega arith) (omega (arith, c .wrapping-sub-u64 .ensures)) ∙ ap twosComplement (sym (sums .ensures .area-is)),
     )
 
 pub measure-spec : {M : Type 1} → statement M
-measure-spec =
-    tie.close
-    (tie.spec
-    Inv-loop
-    μ-loop
-    sub-x
-    mul-x
-    shared-slice-read-x
-    sub-y
-    mul-y
-    shared-slice-read-y
-    loop-holds
-    mul-next-x
-    shared-slice-read-next-x
-    add-next-y
-    mul-next-y
-    shared-slice-read-next-y
-    product-requires
-    add-gained
-    product-requires-2
-    add-lost
-    add-i
-    loop-less
-    loop-again
-    wrapping-sub-u64-requires
-    returns)
+measure-spec = tie.close (tie.spec sum-up-requires wrapping-sub-u64-requires returns)

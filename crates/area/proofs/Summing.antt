@@ -11,22 +11,22 @@ use lib.ListN.{length, getD, drop, drop-of-length-le}
 use Rattle.scope.specs.Area.{anyAbove}
 use Rattle.scope.specs.Limits.{coordinateLimit}
 use Rattle.laws.proofs.Words.{above-next}
 use Rattle.area.proofs.Sums.{Sums, sums-begin, sums-next}
 use Rattle.area.proofs.Words.{lastPoint}
 
-pub record Walked (ws : List ℕ) (x y gained lost : ℕ) (over : Bool) (i : ℕ) : Type 0 where
+pub record Summing (ws : List ℕ) (x y gained lost : ℕ) (over : Bool) (i : ℕ) : Type 0 where
   pub few : length ws < 2 ^ 33
   pub sums : Sums ws x y gained lost i
   pub so-far : anyAbove coordinateLimit ws ≡ over || anyAbove coordinateLimit (drop i ws)
 
-pub walked-begin : (ws : List ℕ) → length ws % 2 ≡ 0 → 0 < length ws → length ws < 2 ^ 33 → Walked ws (lastPoint ws .x) (lastPoint ws .y) 0 0 false 0
-walked-begin ws even some few = record { few = few; sums = sums-begin ws even some; so-far = refl }
+pub summing-begin : (ws : List ℕ) → length ws % 2 ≡ 0 → 0 < length ws → length ws < 2 ^ 33 → Summing ws (lastPoint ws .x) (lastPoint ws .y) 0 0 false 0
+summing-begin ws even some few = record { few = few; sums = sums-begin ws even some; so-far = refl }
 
-module _ {ws : List ℕ} {x y gained lost : ℕ} {over : Bool} {i : ℕ} (s : Walked ws x y gained lost over i) where
+module _ {ws : List ℕ} {x y gained lost : ℕ} {over : Bool} {i : ℕ} (s : Summing ws x y gained lost over i) where
   -- the next point is passed
-  pub walked-next : i < length ws → {p q : ℕ} → (p ≡ y * getD ws i 0) × (p < 2 ^ 32) → (q ≡ x * getD ws (i + 1) 0) × (q < 2 ^ 32) →
-      Walked ws (getD ws i 0) (getD ws (i + 1) 0) (gained + p) (lost + q) ((over || ltb coordinateLimit (getD ws i 0)) || ltb coordinateLimit (getD ws (i + 1) 0)) (i + 2)
-  walked-next h hp hq = record {
+  pub summing-next : i < length ws → {p q : ℕ} → (p ≡ y * getD ws i 0) × (p < 2 ^ 32) → (q ≡ x * getD ws (i + 1) 0) × (q < 2 ^ 32) →
+      Summing ws (getD ws i 0) (getD ws (i + 1) 0) (gained + p) (lost + q) ((over || ltb coordinateLimit (getD ws i 0)) || ltb coordinateLimit (getD ws (i + 1) 0)) (i + 2)
+  summing-next h hp hq = record {
     few = s .few;
     sums = sums-next (s .sums) h hp hq;
     so-far = s .so-far
