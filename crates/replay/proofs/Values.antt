@@ -4,6 +4,7 @@ use mathlib.Core.Bool.{Bool}
 use Prim.Native.Nat.{ℕ}
 use mathlib.Core.List.{List, [], _∷_, map}
 use lib.Dec.{lit<}
+use lib.IntN.{pos}
 use lib.ListN.{replicate, length-map}
 use mir.Val.{Val, vstruct, ofList}
 use denote.Exit.{each-of}
@@ -56,13 +57,13 @@ answers-kind = of-struct AT.the-type AT′.the-laws AT′.the-copy AT′.the-pla
 
 -- the record that every place holds before a build
 abbrev pub soil : RingRecord
-soil = record { first = 4294967295; count = 0; fate = Fate.Hole 4294967295 }
+soil = record { first = 4294967295; count = 0; fate = Fate.Hole 4294967295; area = pos 1 }
 
 pub fate-is : Is FT.the-row (soil .fate) (fate-kind .vals (soil .fate))
 fate-is = EL.owes FT.the-type FT′.the-laws (soil .fate) ((refl, lit< tt), tt)
 
 pub soil-is : Is R soil (kind .vals soil)
-soil-is = LL.owes RT.the-type RT′.the-laws soil ((refl, lit< tt), ((refl, lit< tt), (fate-is, tt)))
+soil-is = LL.owes RT.the-type RT′.the-laws soil ((refl, lit< tt), ((refl, lit< tt), (fate-is, ((refl, lit< tt), tt))))
 
 -- the array of such records
 abbrev pub soiled : List RingRecord

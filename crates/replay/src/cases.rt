@@ -2,6 +2,7 @@
 // in each. A call's code is 0, or the number of its refusal.
 use isoringbuilder::Built;
 use isoringbuilder::SecondReport;
+use limits::RECORD_STRIDE;
 use scan::FirstReport;
 use scope::Rule;
 use smoothing::Placement;
@@ -73,7 +74,7 @@ pub fn exact_room(dx: u32, counts: Counts) -> Room {
         open: 4 * (counts.peak as usize) + dx as usize + 2,
         linked: 2 * (counts.segments as usize),
         worded: 2 * (counts.points as usize),
-        recorded: 4 * (counts.rings as usize),
+        recorded: RECORD_STRIDE * (counts.rings as usize),
     }
 }
 

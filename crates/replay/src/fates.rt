@@ -1,15 +1,18 @@
 // The fates of a contour's rings, worked out from the crate's points and held to class and owner of the crate's records.
+use crate::grids::put_records;
 use crate::tables::SOILED;
 use crate::tables::WORDS;
 use crate::tables::after;
 use crate::tables::points_front;
 use crate::tables::put_point;
 use crate::tables::word;
+use crate::text::NUMBERS;
 use explaining::RingFate;
 use explaining::ring_fate;
 use limits::HOLE;
 use limits::NO_OWNER;
 use limits::POLYGON;
+use limits::RECORD_STRIDE;
 
 // Stores this many coordinates.
 fn fill_points(listed: &[u32], count: usize, points: &mut [u16; WORDS]) {
@@ -46,20 +49,27 @@ fn each_holds(points: &[u16], directory: &[u32], rings: u32) -> bool {
         if !fate_holds(points, directory, rings, k, rest) {
             return false;
         }
-        let next = after(rest, 4);
+        let next = after(rest, RECORD_STRIDE);
         rest = next;
     }
     fate_holds(points, directory, rings, rings, rest)
 }
 
 // The same over the first words of the points, this many.
-fn first_hold(points: &[u16; WORDS], worded: usize, directory: &[u32], rings: u32) -> bool {
+fn first_hold(
+    points: &[u16; WORDS],
+    worded: usize,
+    directory: &[u32; NUMBERS],
+    rings: u32,
+) -> bool {
     each_holds(points_front(points, worded), directory, rings)
 }
 
-// Whether the rings of a contour of this many words of points have the fates of its records.
-pub fn fates_hold(listed: &[u32], worded: usize, directory: &[u32], rings: u32) -> bool {
+// Whether the rings of a contour of this many words of points have the fates of the records of its set.
+pub fn fates_hold(listed: &[u32], worded: usize, set: &[u32]) -> bool {
     let mut points = [SOILED; WORDS];
     fill_points(listed, worded, &mut points);
-    first_hold(&points, worded, directory, rings)
+    let mut directory = [0u32; NUMBERS];
+    put_records(set, &mut directory);
+    first_hold(&points, worded, &directory, word(set, 2))
 }

@@ -1,15 +1,28 @@
-// What the lines of a text share: a case from its sides and counts, and the parts of a set, which is S, H, R, the number of points and the records.
+// What the lines of a text share: a case from its sides and counts, and the parts of a set, which is S, H, R, the number of points and the records. A record is
+// listed by five numbers: first point, point count, class, owner and area, which has two words in a directory.
+use crate::areas::high_word;
+use crate::areas::low_word;
+use crate::calls::VALUES;
 use crate::cases::Build;
 use crate::cases::Case;
 use crate::cases::Counts;
 use crate::cases::Drawing;
 use crate::cases::List;
 use crate::cases::exact_room;
+use crate::recorded::both_hold;
 use crate::tables::after;
+use crate::tables::put;
 use crate::tables::word;
+use crate::text::NUMBERS;
+use limits::RECORD_STRIDE;
 use scope::Rule;
 use smoothing::Placement;
 ghost use Prim.Native.Nat.{_<_};
+
+// The numbers of a set before its records, and those of a record.
+const BEFORE_RECORDS: usize = 4;
+
+const LISTED: usize = 5;
 
 // Lines as they are drawn.
 pub const PLAIN: Drawing = Drawing {
@@ -80,5 +93,58 @@ pub fn counts_of(set: &[u32]) -> Counts {
 
 // The numbers after the records of a set.
 pub fn after_records(set: &[u32]) -> &[u32] {
-    after(set, 4 + 4 * (word(set, 2) as usize))
+    after(set, BEFORE_RECORDS + LISTED * (word(set, 2) as usize))
+}
+
+// Stores the words of a ring's record but for its area.
+pub fn put_record(
+    records: &mut [u32; NUMBERS],
+    ring: u32,
+    first: u32,
+    count: u32,
+    class: u32,
+    owner: u32,
+) {
+    let at = RECORD_STRIDE * (ring as usize);
+    put(records, at, first);
+    put(records, at + 1, count);
+    put(records, at + 2, class);
+    put(records, at + 3, owner);
+}
+
+// Stores the words of a ring's area, for which this number stands.
+pub fn put_area(records: &mut [u32; NUMBERS], ring: u32, number: u32) {
+    let at = RECORD_STRIDE * (ring as usize);
+    put(records, at + 4, low_word(number));
+    put(records, at + 5, high_word(number));
+}
+
+// Stores the words of the record that a list begins with, which is that of this ring.
+fn put_listed(records: &mut [u32; NUMBERS], ring: u32, list: &[u32]) {
+    put_record(
+        records,
+        ring,
+        word(list, 0),
+        word(list, 1),
+        word(list, 2),
+        word(list, 3),
+    );
+    put_area(records, ring, word(list, 4));
+}
+
+// Stores the words of the records of a set.
+pub fn put_records(set: &[u32], records: &mut [u32; NUMBERS]) {
+    let mut rest = after(set, BEFORE_RECORDS);
+    for ring in 0..word(set, 2) {
+        put_listed(records, ring, rest);
+        let next = after(rest, LISTED);
+        rest = next;
+    }
+}
+
+// Whether a case holds by words and by records, with the records of this set and these points.
+pub fn listed_holds(case: Case, set: &[u32], listed: &[u32], values: &[f64; VALUES]) -> bool {
+    let mut records = [0u32; NUMBERS];
+    put_records(set, &mut records);
+    both_hold(case, &records, listed, values)
 }

@@ -6,9 +6,9 @@ use crate::cases::Drawing;
 use crate::grids::after_records;
 use crate::grids::case_of;
 use crate::grids::counts_of;
+use crate::grids::listed_holds;
 use crate::grids::pair_of;
 use crate::grids::sample_count;
-use crate::recorded::both_hold;
 use crate::tables::after;
 use crate::tables::listed_float;
 use crate::tables::put_float;
@@ -53,5 +53,5 @@ pub fn lines_hold(line: &[u32]) -> bool {
     let case = case_of(Build::Lines, line, counts_of(set), list, drawing);
     let mut values = [0.0f64; VALUES];
     fill_floats(samples, case.samples, &mut values);
-    (listed.len() == 8 * (word(set, 3) as usize)) & both_hold(case, after(set, 4), listed, &values)
+    (listed.len() == 8 * (word(set, 3) as usize)) & listed_holds(case, set, listed, &values)
 }

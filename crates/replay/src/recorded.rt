@@ -1,6 +1,7 @@
 // The builds by records, held to the same answers as those by words: as many of the first records as there are rings stand for the directory's words, and the others
 // are as they were. Each is run with as many records as rings, with more, with one fewer, and with a word fewer in the directory; and the set that a contour or a band
 // writes is read by records too.
+use crate::areas::area_of;
 use crate::calls::VALUES;
 use crate::calls::case_holds;
 use crate::calls::has_floats;
@@ -26,6 +27,7 @@ use crate::tables::lent;
 use crate::tables::points_front;
 use crate::tables::points_lent;
 use crate::tables::word;
+use crate::text::NUMBERS;
 use crate::texts::set_holds;
 use crate::tried::ROOM;
 use crate::tried::Tried;
@@ -34,6 +36,7 @@ use crate::tried::try_band;
 use crate::tried::try_contour;
 use crate::tried::try_lines;
 use crate::tried::try_rings;
+use limits::RECORD_STRIDE;
 use ringrecord::RingRecord;
 use ringrecord::class_word;
 use ringrecord::owner_word;
@@ -95,16 +98,17 @@ fn run_tried(
     }
 }
 
-// Whether a record, which is that of number k, stands for the four words that a directory begins with.
+// Whether a record, which is that of number k, stands for the six words that a directory begins with.
 fn same_record(record: RingRecord, k: u32, directory: &[u32]) -> bool {
     let fate = record.fate;
     record.first == word(directory, 0)
         && record.count == word(directory, 1)
         && class_word(fate) == word(directory, 2)
         && owner_word(k, fate) == word(directory, 3)
+        && record.area == area_of(word(directory, 4), word(directory, 5))
 }
 
-// Whether a record stands for the four words that a directory begins with where its number k is below that of the rings, and else is as it was.
+// Whether a record stands for the six words that a directory begins with where its number k is below that of the rings, and else is as it was.
 fn record_holds(record: RingRecord, k: u32, rings: u32, directory: &[u32]) -> bool {
     if k < rings {
         same_record(record, k, directory)
@@ -121,7 +125,7 @@ fn records_hold(records: [RingRecord; ROOM], rings: u32, directory: &[u32]) -> b
         if !record_holds(record, k as u32, rings, rest) {
             return false;
         }
-        let next = after(rest, 4);
+        let next = after(rest, RECORD_STRIDE);
         rest = next;
     }
     true
@@ -251,6 +255,11 @@ fn case_tried_holds(case: Case, records: &[u32], listed: &[u32], values: &[f64; 
 }
 
 // Whether a case holds by words and by records.
-pub fn both_hold(case: Case, records: &[u32], listed: &[u32], values: &[f64; VALUES]) -> bool {
+pub fn both_hold(
+    case: Case,
+    records: &[u32; NUMBERS],
+    listed: &[u32],
+    values: &[f64; VALUES],
+) -> bool {
     case_holds(case, records, listed, values) & case_tried_holds(case, records, listed, values)
 }

@@ -7,9 +7,9 @@ use crate::grids::PLAIN;
 use crate::grids::after_records;
 use crate::grids::case_of;
 use crate::grids::counts_of;
+use crate::grids::listed_holds;
 use crate::grids::pair_of;
 use crate::grids::sample_count;
-use crate::recorded::both_hold;
 use crate::tables::after;
 use crate::tables::put_float;
 use crate::tables::word;
@@ -41,14 +41,9 @@ fn regions_hold_at(line: &[u32], below: f64, rule: Rule) -> bool {
     let mut values = [0.0f64; VALUES];
     fill(after(line, 2), contour_case.samples, &mut values);
     (listed.len() == band_case.room.worded)
-        & both_hold(contour_case, after(contour, 4), listed, &values)
-        & both_hold(band_case, after(band, 4), listed, &values)
-        & fates_hold(
-            listed,
-            contour_case.room.worded,
-            after(contour, 4),
-            contour_case.counts.rings,
-        )
+        & listed_holds(contour_case, contour, listed, &values)
+        & listed_holds(band_case, band, listed, &values)
+        & fates_hold(listed, contour_case.room.worded, contour)
 }
 
 // Whether contour and band of this line, and the fates of the contour's rings, are replayed without a difference. Samples and thresholds are whole: the samples

@@ -1,4 +1,4 @@
-// A line of the rings' text: sides, a number a row, S, H and R, and for each ring its point count and its points.
+// A line of the rings' text: sides, a number a row, S, H and R, and for each ring its point count, its area and its points.
 use crate::calls::VALUES;
 use crate::cases::Build;
 use crate::cases::Case;
@@ -6,6 +6,8 @@ use crate::cases::Counts;
 use crate::grids::PLAIN;
 use crate::grids::case_of;
 use crate::grids::pair_of;
+use crate::grids::put_area;
+use crate::grids::put_record;
 use crate::recorded::both_hold;
 use crate::row_grids::rows_hold;
 use crate::tables::after;
@@ -13,6 +15,8 @@ use crate::tables::put;
 use crate::tables::put_float;
 use crate::tables::word;
 use crate::text::NUMBERS;
+use limits::LINE;
+use limits::NO_OWNER;
 use scope::Rule;
 use std::num::wrapping_add_u32;
 use std::num::wrapping_add_usize;
@@ -32,35 +36,44 @@ fn fill_rows(rows: &[u32], dx: usize, count: usize, values: &mut [f64; VALUES]) 
     }
 }
 
-// Stores the record of a ring that is bare and has no owner.
-fn put_record(records: &mut [u32; NUMBERS], ring: u32, first: u32, count: u32) {
-    let at = 4 * (ring as usize);
-    put(records, at, first);
-    put(records, at + 1, count);
-    put(records, at + 2, 2);
-    put(records, at + 3, 4294967295);
-}
-
-// How far the rings of a line have been taken apart: those that have begun, the words of points that have come, and those that are left of the last ring.
+// How far the rings of a line have been taken apart: those whose area has come, the words of points that have come, those that are left of the last ring, and
+// whether its area comes next.
 struct Taken {
     rings: u32,
     words: u32,
     left: u32,
+    is_counted: bool,
 }
 
-// Takes the next number of the rings: a ring's point count, or a word of its points.
+// Takes the next number of the rings: a ring's point count, its area, or a word of its points. A ring is bare and has no owner.
 fn take(
     taken: Taken,
     number: u32,
     records: &mut [u32; NUMBERS],
     listed: &mut [u32; NUMBERS],
 ) -> Taken {
-    if taken.left == 0 {
-        put_record(records, taken.rings, taken.words / 2, number);
+    if taken.is_counted {
+        put_area(records, taken.rings, number);
         Taken {
             rings: wrapping_add_u32(taken.rings, 1),
             words: taken.words,
+            left: taken.left,
+            is_counted: false,
+        }
+    } else if taken.left == 0 {
+        put_record(
+            records,
+            taken.rings,
+            taken.words / 2,
+            number,
+            LINE,
+            NO_OWNER,
+        );
+        Taken {
+            rings: taken.rings,
+            words: taken.words,
             left: wrapping_add_u32(number, number),
+            is_counted: true,
         }
     } else {
         put(listed, taken.words as usize, number);
@@ -68,6 +81,7 @@ fn take(
             rings: taken.rings,
             words: wrapping_add_u32(taken.words, 1),
             left: taken.left - 1,
+            is_counted: false,
         }
     }
 }
@@ -78,6 +92,7 @@ fn take_rings(rings: &[u32], records: &mut [u32; NUMBERS], listed: &mut [u32; NU
         rings: 0,
         words: 0,
         left: 0,
+        is_counted: false,
     };
     for i in 0..rings.len() {
         let next = take(taken, word(rings, i), records, listed);

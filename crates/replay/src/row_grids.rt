@@ -21,6 +21,7 @@ use crate::tables::put;
 use crate::tables::word;
 use crate::tables::words_hold;
 use isoringbuilder::Built;
+use limits::RECORD_STRIDE;
 use rows::Rows;
 use std::num::wrapping_add_u32;
 use std::num::wrapping_add_usize;
@@ -46,7 +47,7 @@ fn points_before(records: &[u32], rings: u32) -> u32 {
     if rings == 0 {
         return 0;
     }
-    let at = 4 * ((rings - 1) as usize);
+    let at = RECORD_STRIDE * ((rings - 1) as usize);
     wrapping_add_u32(word(records, at), word(records, at + 1))
 }
 
@@ -58,7 +59,7 @@ fn beyond(n: u32, m: u32) -> u32 {
 // Moves the first points of this many rings on by so many points.
 fn move_records(directory: &mut [u32; WORDS], rings: u32, by: u32) {
     for k in 0..rings {
-        let at = 4 * (k as usize);
+        let at = RECORD_STRIDE * (k as usize);
         let first = word(directory, at);
         put(directory, at, wrapping_add_u32(first, by));
     }
@@ -72,7 +73,7 @@ fn packed_hold(points: &[u16; WORDS], count: u32, listed: &[u32]) -> bool {
 
 // Whether the first records of a directory are these many of the list, and the words behind them soil.
 fn records_hold(directory: &[u32; WORDS], rings: u32, records: &[u32]) -> bool {
-    let words = 4 * (rings as usize);
+    let words = RECORD_STRIDE * (rings as usize);
     words_hold(directory, words + SPARE, words, records, 0)
 }
 
@@ -93,7 +94,11 @@ fn given_hold(
         beyond(next, first),
         after(listed, 2 * (first as usize)),
     )
-        & records_hold(directory, rings, after(records, 4 * (from as usize)))
+        & records_hold(
+            directory,
+            rings,
+            after(records, RECORD_STRIDE * (from as usize)),
+        )
 }
 
 // The run after a call that has given out this many rings.

@@ -11,6 +11,7 @@ use crate::cases::GENEROUS;
 use crate::cases::List;
 use crate::cases::Room;
 use crate::grids::sized_case;
+use limits::RECORD_STRIDE;
 use scope::Rule;
 use smoothing::Placement;
 
@@ -71,11 +72,11 @@ fn second_pair() -> List {
     }
 }
 
-// The record of the only ring of the longest grid.
-fn longest_record(build: Build) -> [u32; 4] {
+// The record of the only ring of the longest grid. Its area is eight times what it encloses, which is half a sample less than 4,096.
+fn longest_record(build: Build) -> [u32; RECORD_STRIDE] {
     match build {
-        Build::Contour | Build::Band => [0, 8195, 0, 0],
-        _ => [0, 8195, 2, 4294967295],
+        Build::Contour | Build::Band => [0, 8195, 0, 0, 32764, 0],
+        _ => [0, 8195, 2, 4294967295, 32764, 0],
     }
 }
 

@@ -1,5 +1,7 @@
 // The check, the length and the text of a ring set by records, held to those by words: the answers, every byte of the text, and the words that each leaves in its
 // directory. They are run in exact and in generous room, with a byte, a word or a record fewer, and over a set whose first record is damaged.
+use crate::areas::area_of;
+use crate::areas::other_high;
 use crate::cases::one_less_if;
 use crate::readers::Answers;
 use crate::readers::read_records;
@@ -8,6 +10,7 @@ use crate::tables::WORDS;
 use crate::tables::front;
 use crate::tables::lent;
 use crate::tables::put;
+use crate::tables::word;
 use crate::tables::words_hold;
 use crate::tried::ROOM;
 use geojson::TextAnswer;
@@ -167,7 +170,7 @@ fn short_set_refused(
         & (readers_code(points, none, records, n - 1, rings, room, BYTES) == 9)
 }
 
-// Stores the words of a first record.
+// Stores the words of a first record but for its area.
 fn put_first(directory: &mut [u32], record: RingRecord) {
     let fate = record.fate;
     put(directory, 0, record.first);
@@ -217,18 +220,67 @@ fn damaged_set_holds(
     let record = records[0];
     let first = record.first;
     let fate = record.fate;
+    let area = record.area;
     let longer = RingRecord {
         first,
         count: wrapping_add_u32(record.count, 1),
         fate,
+        area,
     };
     let hole = RingRecord {
         first,
         count: record.count,
         fate: Fate::Hole(0),
+        area,
     };
     (changed_code(points, directory, records, n, rings, longer) != DIFFERENT)
         & (changed_code(points, directory, records, n, rings, hole) == 9)
+}
+
+// The readers' code over a set of rings whose first record has an area of these words.
+fn area_code(
+    points: &[u16],
+    directory: &mut [u32],
+    records: [RingRecord; ROOM],
+    n: usize,
+    rings: u32,
+    low: u32,
+    high: u32,
+) -> u32
+    requires { ⌜ n ≤ 128 ⌝ }
+{
+    let record = records[0];
+    let fate = record.fate;
+    let changed = RingRecord {
+        first: record.first,
+        count: record.count,
+        fate,
+        area: area_of(low, high),
+    };
+    put(directory, 4, low);
+    put(directory, 5, high);
+    changed_code(points, directory, records, n, rings, changed)
+}
+
+// Whether a set of rings, where there are any, is refused where either word of its first record's area is one off.
+fn damaged_area_refused(
+    points: &[u16],
+    directory: &mut [u32],
+    records: [RingRecord; ROOM],
+    n: usize,
+    rings: u32,
+) -> bool
+    requires { ⌜ n ≤ 128 ⌝ }
+{
+    if n == 0 {
+        return true;
+    }
+    let low = word(directory, 4);
+    let high = word(directory, 5);
+    let more = wrapping_add_u32(low, 1);
+    let other = other_high(high);
+    (area_code(points, directory, records, n, rings, more, high) == 9)
+        & (area_code(points, directory, records, n, rings, low, other) == 9)
 }
 
 // Whether a set of rings is read by records as by words. More rings than there are records for are a difference.
@@ -245,4 +297,5 @@ pub fn set_holds(
     set_reads(points, directory, records, n, rings)
         & short_set_refused(points, directory, records, n, rings)
         & damaged_set_holds(points, directory, records, n, rings)
+        & damaged_area_refused(points, directory, records, n, rings)
 }

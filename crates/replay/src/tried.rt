@@ -15,11 +15,12 @@ ghost use Prim.Native.Nat.{_≤_};
 // How many records the array has.
 pub const ROOM: usize = 128;
 
-// What every record holds before a build. None writes such a record: no hole has an owner of this number.
+// What every record holds before a build. None writes such a record: no hole has an owner of this number, and no ring an odd area.
 const SOILED: RingRecord = RingRecord {
     first: 4294967295,
     count: 0,
     fate: Fate::Hole(4294967295),
+    area: 1,
 };
 
 // What a build answered, and the array that it was lent the front of.
@@ -31,7 +32,10 @@ pub struct Tried {
 // Whether a record is as it was before the build.
 pub fn is_soiled(record: RingRecord) -> bool {
     let fate = record.fate;
-    record.first == SOILED.first && record.count == SOILED.count && is_soiled_fate(fate)
+    record.first == SOILED.first
+        && record.count == SOILED.count
+        && is_soiled_fate(fate)
+        && record.area == SOILED.area
 }
 
 fn is_soiled_fate(fate: Fate) -> bool {

@@ -113,7 +113,7 @@ module _ {M : Type 1} (𝓤 : URA M) (H : Heap 𝓤) (A : Atoms 𝓤) (W : Given
       pass1 ! (init ! (L 0 11) refl (tt, record { fits = n-is .1 })) $ pass0 ! $
       -- the array
       assigns ! (agg ! (and-then ! (lit ! tt) (and-then ! (neg-lit ! tt) (no-more !)))) (from ! (stop !)) (init ! (L 0 14) refl (fate-kind .lawful 𝓤 H A W .typed (soil .fate) _ fate-is .0)) $
-      assigns ! (agg ! (and-then ! (neg-lit ! tt) (and-then ! (lit ! tt) (and-then ! (var ! (L 0 14) refl) (no-more !))))) (from ! (stop !)) (init ! (L 0 15) refl (kind .lawful 𝓤 H A W .typed soil _ soil-is .0)) $
+      assigns ! (agg ! (and-then ! (neg-lit ! tt) (and-then ! (lit ! tt) (and-then ! (var ! (L 0 14) refl) (and-then ! (lit ! tt) (no-more !)))))) (from ! (stop !)) (init ! (L 0 15) refl (kind .lawful 𝓤 H A W .typed soil _ soil-is .0)) $
       assigns ! (rep ! 128 (var ! (L 0 15) refl)) (from ! (stop !)) (init ! (L 0 12) refl (array-typed R (kind .lawful 𝓤 H A W .typed) 128 soiled _ soiled-is .0)) $
       -- the slices that are passed on, and the front of the array
       relends ! mut lines (are .1 .1 .1 .1 .1 .1 .0 .0 .1 .0) (L 0 7) (L 0 16) (L 0 17) refl refl refl refl refl refl refl refl $
