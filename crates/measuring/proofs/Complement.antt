@@ -1,4 +1,5 @@
--- The machine's difference modulo 2^64 is the difference in two's complement, and the area of a ring within the points is the one that is named. Assumes nothing.
+-- The machine's difference modulo 2^64 is the difference in two's complement, and the area of a ring within the points is the one that is named.
+-- Assumes nothing.
 use mathlib.Core.Path.{_≡_, refl, sym, ap, _∙_}
 use mathlib.Core.Bool.{Bool, true, false, cond}
 use mathlib.Core.List.{List}

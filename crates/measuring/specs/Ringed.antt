@@ -1,4 +1,5 @@
--- The area of the ring that a first point and a point count name, whatever the points are; and what a step adds to an area in two's complement. Assumes nothing.
+-- The area of the ring that a first point and a point count name, whatever the points are; and what a step adds to an area in two's complement.
+-- Assumes nothing.
 use mathlib.Core.Path.{_≡_}
 use Prim.Native.Nat.{ℕ, _+_, _*_}
 use mathlib.Core.Bool.{cond}
