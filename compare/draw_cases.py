@@ -120,9 +120,8 @@ def is_polygon(number, area):
 
 
 def is_hole(number, owner, area, at, others):
-    """What is said of a hole: its area, its first point, and of other polygons."""
-    why = f"its area is {area}, which is not above 0, and its vertex 0 at {at} lies inside"
-    return f"ring {number} is a hole of polygon {owner}: {why}; {others}\n"
+    """What is said of a hole: of its first point, of other polygons, and its area."""
+    return f"ring {number} is a hole of polygon {owner}: its vertex 0 at {at} lies inside; {others}; its area is {area}\n"
 
 
 def below_dots(count, named, more=""):

@@ -77,8 +77,7 @@ def sentence(rings, number):
     owner, vertex, before = fate(rings, number)
     assert vertex == 0 and all(decided == 0 for _, decided in before)
     x, y = rings[number][0]
-    text = f"ring {number} is a hole of polygon {owner}: its area is {size}, which is not above 0, and "
-    text += f"its vertex 0 at ({x / 2:g}, {y / 2:g}) lies inside"
+    text = f"ring {number} is a hole of polygon {owner}: its vertex 0 at ({x / 2:g}, {y / 2:g}) lies inside"
     named = [str(polygon) for polygon, _ in before[:NAMED]]
     more = len(before) - len(named)
     if not named:
@@ -90,4 +89,4 @@ def sentence(rings, number):
         text += f"; polygons {listed} do not hold it: vertex 0 lies outside each"
     if more:
         text += f"; nor {'does' if more == 1 else 'do'} {more} more"
-    return text + "\n"
+    return f"{text}; its area is {size}\n"

@@ -155,22 +155,23 @@ fn listed(numbers: &[u32]) -> String {
 /// What became of a ring, and why.
 fn sentence(ring: &Record, fate: RingFate, others: &Others) -> String {
     let alone = others.asked.is_empty();
-    let area = shapes::ring_area(ring);
-    let not_above = format!("its area is {area}, which is not above 0, and");
+    let area = format!("its area is {}", shapes::ring_area(ring));
     let became = match fate {
-        RingFate::Polygon => format!("a polygon: its area is {area}, which is above 0"),
+        RingFate::Polygon => format!("a polygon: {area}, which is above 0"),
         RingFate::Hole { owner, by } => {
-            let held = held(ring.points, by);
-            format!("a hole of polygon {owner}: {not_above} {held}")
+            format!("a hole of polygon {owner}: {}", held(ring.points, by))
         }
-        RingFate::Dropped if alone => format!("dropped: {not_above} there is no polygon"),
-        RingFate::Dropped => format!("dropped: {not_above} no polygon holds it"),
+        RingFate::Dropped if alone => "dropped: it is a hole, and there is no polygon".to_owned(),
+        RingFate::Dropped => "dropped: it is a hole that no polygon holds".to_owned(),
     };
     let mut clauses = vec![format!("ring {} is {became}", ring.number)];
     if alone && matches!(fate, RingFate::Hole { .. }) {
         clauses.push("no polygon has a lower number".to_owned());
     }
     clauses.extend(others.clauses());
+    if !matches!(fate, RingFate::Polygon) {
+        clauses.push(area);
+    }
     clauses.join("; ")
 }
 
@@ -213,17 +214,17 @@ mod tests {
         let dropped = |asked, more| says(RingFate::Dropped, asked, more);
         assert_eq!(
             dropped(&[], 0),
-            "ring 7 is dropped: its area is -0.5, which is not above 0, and there is no polygon"
+            "ring 7 is dropped: it is a hole, and there is no polygon; its area is -0.5"
         );
         assert_eq!(
             dropped(&[(0, &[1, 4, 9]), (3, &[5])], 0),
-            "ring 7 is dropped: its area is -0.5, which is not above 0, and no polygon holds it; polygons 1, 4 and 9 \
-             do not hold it: vertex 0 lies outside each; polygon 5 does not hold it: vertex 3 lies outside"
+            "ring 7 is dropped: it is a hole that no polygon holds; polygons 1, 4 and 9 do not hold it: vertex 0 \
+             lies outside each; polygon 5 does not hold it: vertex 3 lies outside; its area is -0.5"
         );
         assert_eq!(
             dropped(&[(2, &[8])], 1),
-            "ring 7 is dropped: its area is -0.5, which is not above 0, and no polygon holds it; polygon 8 does not \
-             hold it: vertex 2 lies outside; nor does 1 more"
+            "ring 7 is dropped: it is a hole that no polygon holds; polygon 8 does not hold it: vertex 2 lies \
+             outside; nor does 1 more; its area is -0.5"
         );
     }
 
@@ -235,9 +236,9 @@ mod tests {
         };
         assert_eq!(
             says(fate, &[(0, &[1, 4])], 1234),
-            "ring 7 is a hole of polygon 12: its area is -0.5, which is not above 0, and each of its vertices lies on \
-             the boundary or in the row of the polygon's first point; polygons 1 and 4 do not hold it: vertex 0 lies \
-             outside each; nor do 1234 more"
+            "ring 7 is a hole of polygon 12: each of its vertices lies on the boundary or in the row of the polygon's \
+             first point; polygons 1 and 4 do not hold it: vertex 0 lies outside each; nor do 1234 more; its area is \
+             -0.5"
         );
     }
 }
