@@ -7,20 +7,19 @@ use Prim.Native.Nat.{ℕ, min, _+_, _*_, _≤_}
 use native.Mathlib.Omega.{arith}
 use lib.Ieee.{Float}
 use lib.ListN.{length, getD, take, drop, replicate, length-append, length-drop}
-use lib.Seq.{length-take-le, take-at, drop-at}
+use lib.Seq.{length-take-le, take-at}
 use Rattle.error.specs.declared.Refusal.{Refusal}
 use Rattle.scope.specs.declared.Level.{Level}
 use Rattle.error.specs.declared.Refusal.the-variants.{PointsShort, DirectoryShort}
-use Rattle.scope.specs.Limits.{recordStride}
 use Rattle.scope.specs.Terrain.{Sheet, aboveAt, terrain}
 use Rattle.scope.specs.Stitching.{Line}
 use Rattle.scope.specs.Drawing.{segmentCount, ringCount, ringsOf, peak}
 use Rattle.scope.specs.Room.{openWords, linkWords, pointWords, directoryWords}
-use Rattle.scope.specs.Tables.{written, packedPoints, shortOf, recordOf, bareBy, contourRecords}
+use Rattle.scope.specs.Tables.{written, packedPoints, shortOf, bareBy, contourRecords}
 use Rattle.machine.proofs.Built.{links-kept, packed-points-fill-their-room, short-records-length}
 use Rattle.packing.specs.Cleared.{cleared}
 use Rattle.extents.specs.Records.{recordCount}
-use Rattle.regions.specs.Regions.{countedRings, contourBy}
+use Rattle.regions.specs.Regions.{contourBy}
 use Rattle.spreading.proofs.Laws.{written-over}
 use Rattle.isoringbuilder.specs.Verdict.{Verdict, refused, passes, workVerdict, roomVerdict, outputVerdict}
 use Rattle.isoringbuilder.specs.Answers.{outputAfter, built}

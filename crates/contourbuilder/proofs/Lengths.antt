@@ -6,7 +6,7 @@ use Prim.Native.Nat.{ℕ, suc, _+_, _*_}
 use native.Mathlib.Omega.{arith}
 use lib.ListN.{length, length-append}
 use Rattle.scope.specs.Stitching.{Line}
-use Rattle.scope.specs.Contour.{Fate, contourFates, contourClasses, fatesBy}
+use Rattle.scope.specs.Contour.{contourFates, contourClasses, fatesBy}
 use Rattle.scope.specs.Band.{sortKey, Numbered, numberedFrom, sorted, bandOrder, orderRings, classesFrom, bandFates}
 use Rattle.sorting.proofs.TwoPasses.{by-length, sorted-is-by}
 use Rattle.scope.specs.Tables.{ringWords, packedPoints, contourRecords, bandRecords}

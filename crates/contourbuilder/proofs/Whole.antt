@@ -11,8 +11,7 @@ use Rattle.scope.specs.Area.{points, area}
 use Rattle.scope.specs.Contour.{Fate, contourFates}
 use Rattle.scope.specs.Band.{Numbered, numberedFrom, sorted, sortKey, orderRings, bandFates}
 use Rattle.scope.specs.GeoJson.{wordsIn}
-use Rattle.scope.specs.Tables.{written, shortOf, recordOf, orderedBy, orderedRecords, firstPoint}
-use Rattle.extents.specs.Points.{ringIn}
+use Rattle.scope.specs.Tables.{written, shortOf, recordOf, orderedBy, orderedRecords}
 use Rattle.extents.specs.Records.{recordCount}
 use Rattle.measuring.specs.Ringed.{areaIn}
 use Rattle.measuring.proofs.Complement.{area-within}

@@ -1,6 +1,5 @@
 -- Areas as the two words of a record, computed: small ones of either sign, those at the edge of the low word, and the largest that a record may hold.
 -- Assumes nothing.
-use Prim.Native.Nat.{ℕ}
 use mathlib.Core.Path.{_≡_, refl}
 use mathlib.Core.List.{List, [], _∷_, map}
 use lib.IntN.{ℤ, pos, negsuc}

@@ -1,22 +1,22 @@
 -- What spreading leaves of records that stand in a directory without their areas: whole records, of bare rings that are packed and of rings in an order, where
 -- the points that a record names are its ring's. Assumes nothing.
-use mathlib.Core.Path.{_≡_, refl, sym, _∙_, ap, ap₂, subst}
+use mathlib.Core.Path.{_≡_, refl, sym, _∙_, ap, ap₂}
 use mathlib.Core.List.{List, [], _∷_, _++_, append-assoc}
-use Prim.Native.Nat.{ℕ, zero, suc, _+_, _-_, _*_, _≤_, _<_}
+use Prim.Native.Nat.{ℕ, suc, _+_, _-_, _*_, _≤_, _<_}
 use native.Mathlib.Nat.{mul-zero, mul-suc, add-comm}
 use native.Mathlib.Omega.{arith}
 use lib.ListN.{length, getD, take, drop, length-append, length-drop}
 use lib.Seq.{getD-drop, drop-drop, drop-append-add, drop-at, take-at}
 use Rattle.scope.specs.Stitching.{Line}
 use Rattle.scope.specs.Area.{points, area, areaWords}
-use Rattle.scope.specs.Contour.{Fate, line, classWord, ownerWord}
+use Rattle.scope.specs.Contour.{Fate, line}
 use Rattle.scope.specs.Band.{Numbered}
 use Rattle.scope.specs.GeoJson.{wordsIn}
 use Rattle.scope.specs.Tables.{written, ringWords, packedPoints, shortOf, recordOf, bareBy, bareRecords, firstPoint, orderedBy, orderedRecords}
 use Rattle.measuring.specs.Ringed.{areaIn}
 use Rattle.measuring.proofs.Complement.{area-within}
 use Rattle.spreading.specs.Spread.{spreadRecord, spreadFrom}
-use Rattle.spreading.proofs.Stores.{spread-length, from-record}
+use Rattle.spreading.proofs.Stores.{from-record}
 
 -- ---- words that are written over others
 

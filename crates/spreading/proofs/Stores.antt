@@ -1,15 +1,14 @@
 -- The loop: from record k on the directory is spread out, and the words before record k of the four-word records are as they were. Assumes nothing.
 use mathlib.Core.Path.{_≡_, refl, sym, _∙_, ap, ap₂}
-use mathlib.Core.List.{List, [], _∷_, _++_, append-assoc}
+use mathlib.Core.List.{List, _++_, append-assoc}
 use Prim.Native.Nat.{ℕ, zero, suc, _+_, _-_, _*_, _≤_, _<_}
 use native.Mathlib.Omega.{arith}
-use lib.ListN.{length, getD, set, take, drop, length-append, length-take}
+use lib.ListN.{length, getD, take, drop, length-append}
 use lib.Seq.{sets, length-sets, sets-eq, getD-take, take-all, take-append-le, drop-at, length-take-le}
 use Rattle.scope.specs.Area.{areaWords}
 use Rattle.scope.specs.Limits.{recordStride}
 use Rattle.scope.specs.Room.{directoryWords}
 use Rattle.scope.specs.Tables.{written}
-use Rattle.measuring.specs.Ringed.{areaIn}
 use Rattle.spreading.specs.Spread.{spreadRecord, spreadFrom}
 
 pub six-words : (ps directory : List ℕ) (k : ℕ) → length (spreadRecord ps directory k) ≡ 6
