@@ -1,15 +1,18 @@
 """What compare/draw_tests asks of ./draw, and what it should answer: small terrains, faulty files and faulty
-commands. What is expected follows from document 01, RFC 7946 and the header's formula, worked out by hand."""
+commands. What is expected follows from documents 01 and 02, RFC 7946 and the header's formula, worked out by hand."""
 
 HEADER = "ncols 2\nnrows 3\nxllcorner 100\nyllcorner 200\ncellsize 10\n"
 ROWS = "1 0\n0 0\n0 0\n"
 PLATE = "ncols 3\nnrows 3\nxllcorner 0\nyllcorner 0\ncellsize 2\n1 1 1\n1 0 1\n1 1 1\n"
-ONE = '{"type":"MultiPolygon","coordinates":[[[[1,0.5],[0.5,0],[0,0.5],[0.5,1],[1,0.5]]]]}\n'
+PEAK = "ncols 3\nnrows 3\nxllcorner 0\nyllcorner 0\ncellsize 2\n1 1 1\n1 2 1\n1 1 1\n"
+ONE = '{"type":"MultiPolygon","coordinates":[[[[1,0.5],[0.5,1],[0,0.5],[0.5,0],[1,0.5]]]]}\n'
 NONE = '{"type":"MultiPolygon","coordinates":[]}\n'
 DIAMOND = "polygons 1\nholes 0\ndropped 0\nvertices 5\n"
 # A terrain whose band from 4 to 6 the library gives without the 5.
 JUMPS = "3 6 8 7 1\n7 7 2 9 6\n8 9 6 8 2\n9 5 8 3 9\n8 9 2 6 4\n"
 BIG = "3.4028234663852886e+38"
+# 1e-200 and its half.
+TINY, HALF = f"0.{'0' * 199}1", f"0.{'0' * 200}5"
 
 
 def header(old, new):
@@ -57,7 +60,13 @@ def closed(heights, number, area, points):
     return feature(f'{heights},"ring":{number},"area":{area}', text) + "\n"
 
 
+def back(points):
+    """A ring from the same first point, backwards."""
+    return points[::-1]
+
+
 ON_MAP = [(110, 225), (105, 230), (100, 225), (105, 220), (110, 225)]
+# Rings about the first sample of a row, about both and about the second, as they are drawn: clockwise, y taken upward.
 UPPER_LEFT = [(1, 0.5), (0.5, 0), (0, 0.5), (0.5, 1), (1, 0.5)]
 BOTH = [(2, 0.5), (1.5, 0), (0.5, 0), (0, 0.5), (0.5, 1), (1.5, 1), (2, 0.5)]
 SECOND = [(2, 0.5), (1.5, 0), (1, 0.5), (1.5, 1), (2, 0.5)]
@@ -66,6 +75,15 @@ PLATE_OUT = [
     (6, 1), (6, 3), (6, 5), (5, 6), (3, 6), (1, 6), (0, 5), (0, 3), (0, 1), (1, 0), (3, 0), (5, 0), (6, 1),
 ]
 PLATE_HOLE = [(3, 2), (2, 3), (3, 4), (4, 3), (3, 2)]
+# The ring about the sample in its middle, counterclockwise; it begins where the ring about any sample does.
+MIDDLE = [(4, 3), (3, 4), (2, 3), (3, 2), (4, 3)]
+# These three in grid units, y taken upward.
+GRID_OUT = [
+    (3, 2.5), (2.5, 3), (1.5, 3), (0.5, 3), (0, 2.5), (0, 1.5), (0, 0.5), (0.5, 0), (1.5, 0), (2.5, 0), (3, 0.5),
+    (3, 1.5), (3, 2.5),
+]
+GRID_HOLE = [(1.5, 2), (2, 1.5), (1.5, 1), (1, 1.5), (1.5, 2)]
+GRID_MIDDLE = [(2, 1.5), (1.5, 2), (1, 1.5), (1.5, 1), (2, 1.5)]
 
 
 # Grids that GDAL reads too, each drawn at 1.
@@ -161,7 +179,7 @@ DRAWN = [
     ("1 1 1\n1 0 1\n1 1 1", "--counts 1 --lines", "lines 2\nvertices 18\n"),
     ("2 2 2\n2 1 2\n2 2 0", "1 2 --counts", DIAMOND),
     ("2 2 2\n2 1 2\n2 2 0", "1 2 --counts --isobands", "polygons 0\nholes 0\ndropped 2\nvertices 0\n"),
-    (JUMPS, "5 6", polygon([(2, 3.5), (1.5, 3), (1, 3.5), (1.5, 4), (2, 3.5)])),
+    (JUMPS, "5 6", polygon([(2, 3.5), (1.5, 4), (1, 3.5), (1.5, 3), (2, 3.5)])),
     # White space, commas, comments and line ends.
     ("\n1\t2 \v 3\r\n\r\n4\f5 6\r\n", "2 --counts", "polygons 1\nholes 0\ndropped 0\nvertices 11\n"),
     ("1,2 , 3\n4 5 6", "2 --counts", "polygons 1\nholes 0\ndropped 0\nvertices 11\n"),
@@ -190,6 +208,12 @@ DRAWN = [
     (Y_CENTER + ROWS, "1", polygon([(110, 220), (105, 225), (100, 220), (105, 215), (110, 220)])),
     (HIGH + ROWS, "1", polygon([(110, 250), (105, 260), (100, 250), (105, 240), (110, 250)])),
     ("ncols 1 nrows 1 cellsize 2 5", "5", polygon([(2, -1), (1, 0), (0, -1), (1, -2), (2, -1)])),
+    # A map may be turned over, by steps however small, or turned about.
+    ("1", "1 --step 2,-2", polygon([(2, -1), (1, 0), (0, -1), (1, -2), (2, -1)])),
+    ("1", "1 --step=-2,2", polygon([(-2, 1), (-1, 0), (0, 1), (-1, 2), (-2, 1)])),
+    ("1", "1 --step=-2,-2", polygon([(-2, -1), (-1, -2), (0, -1), (-1, 0), (-2, -1)])),
+    ("1", "1 --step 1e-200,-1e-200", polygon(
+        [(TINY, "-" + HALF), (HALF, 0), (0, "-" + HALF), (HALF, "-" + TINY), (TINY, "-" + HALF)])),
     # Grids however they are written.
     (ONE_LINE, "1", polygon(ON_MAP)),
     (HEADER + "1 0 0\n0\n0 0\n", "1", polygon(ON_MAP)),
@@ -207,11 +231,12 @@ DRAWN = [
     (ANY_ORDER.replace("7", "nan") + "nan\n8\n", "5 --counts", DIAMOND),
     # Several at once.
     ("1 2", "2 9 --levels", collection(
-        feature('"value":2,"area":0.5,"polygons":1', polygon(SECOND)), feature('"value":9,"area":0,"polygons":0', NONE))),
+        feature('"value":2,"area":0.5,"polygons":1', polygon(back(SECOND))),
+        feature('"value":9,"area":0,"polygons":0', NONE))),
     ("1 2", "0 2 inf --bands", collection(
-        feature('"low":0,"high":2,"area":0.5,"polygons":1', polygon(UPPER_LEFT)),
-        feature('"low":2,"high":null,"area":0.5,"polygons":1', polygon(SECOND)))),
-    ("1 2", "--interval 1", collection(feature('"value":2,"area":0.5,"polygons":1', polygon(SECOND)))),
+        feature('"low":0,"high":2,"area":0.5,"polygons":1', polygon(back(UPPER_LEFT))),
+        feature('"low":2,"high":null,"area":0.5,"polygons":1', polygon(back(SECOND))))),
+    ("1 2", "--interval 1", collection(feature('"value":2,"area":0.5,"polygons":1', polygon(back(SECOND))))),
     ("1 2", "--interval 1 --lines", collection(feature('"value":2,"lines":1', line(*SECOND)))),
     ("0.1 0.3", "--interval 0.1 --counts", f"value 0.2\n{DIAMOND}value 0.3\n{DIAMOND}"),
     ("0.1 0.3", "--interval 0.2 --bands --counts", f"low 0\nhigh 0.2\n{DIAMOND}low 0.2\nhigh 0.4\n{DIAMOND}"),
@@ -219,6 +244,30 @@ DRAWN = [
     (PLATE, "1 --levels", collection(
         feature('"value":1,"area":32,"polygons":1', polygon(PLATE_OUT, PLATE_HOLE)))),
     (PLATE, "1 --origin 0,0 --step 2,2", polygon(turned(PLATE_OUT), turned(PLATE_HOLE))),
+    # Exteriors counterclockwise and holes clockwise, on the map and in grid units: levels and bands with holes.
+    (PLATE, "1", polygon(PLATE_OUT, PLATE_HOLE)),
+    (PLATE, "1 --grid", polygon(GRID_OUT, GRID_HOLE)),
+    (PLATE, "0 1 --levels", collection(
+        feature('"value":0,"area":34,"polygons":1', polygon(PLATE_OUT)),
+        feature('"value":1,"area":32,"polygons":1', polygon(PLATE_OUT, PLATE_HOLE)))),
+    (PLATE, "0 1 --levels --grid", collection(
+        feature('"value":0,"area":8.5,"polygons":1', polygon(GRID_OUT)),
+        feature('"value":1,"area":8,"polygons":1', polygon(GRID_OUT, GRID_HOLE)))),
+    (PLATE, "0 1 2 --bands", collection(
+        feature('"low":0,"high":1,"area":2,"polygons":1', polygon(MIDDLE)),
+        feature('"low":1,"high":2,"area":32,"polygons":1', polygon(PLATE_OUT, PLATE_HOLE)))),
+    (PLATE, "0 1 2 --bands --grid", collection(
+        feature('"low":0,"high":1,"area":0.5,"polygons":1', polygon(GRID_MIDDLE)),
+        feature('"low":1,"high":2,"area":8,"polygons":1', polygon(GRID_OUT, GRID_HOLE)))),
+    # The library's band has the ring about the peak for a hole, which has an area above 0.
+    (PEAK, "1 2 --isobands", polygon(PLATE_OUT, back(MIDDLE))),
+    (PEAK, "1 2 --isobands --grid", polygon(GRID_OUT, back(GRID_MIDDLE))),
+    (PEAK, "1 2 --bands --isobands", collection(
+        feature('"low":1,"high":2,"area":32,"polygons":1', polygon(PLATE_OUT, back(MIDDLE))))),
+    (PEAK, "1 2 --bands --isobands --grid", collection(
+        feature('"low":1,"high":2,"area":8,"polygons":1', polygon(GRID_OUT, back(GRID_MIDDLE))))),
+    (PEAK, "1 2", polygon(PLATE_OUT, PLATE_HOLE)),
+    (PEAK, "1 2 --grid", polygon(GRID_OUT, GRID_HOLE)),
     # Strictly above: a sample that equals a threshold is in no region of it, and one that equals HIGH is in the band.
     ("5", "5 --above", NONE),
     ("5", "--above 4", ONE),
@@ -240,13 +289,13 @@ DRAWN = [
     ("1", "0 1 --isobands --above", ONE),
     ("1", "0 1 --isobands --above --counts", DIAMOND),
     ("1 2", "1 2 --levels --above", collection(
-        feature('"value":1,"rule":">","area":0.5,"polygons":1', polygon(SECOND)),
+        feature('"value":1,"rule":">","area":0.5,"polygons":1', polygon(back(SECOND))),
         feature('"value":2,"rule":">","area":0,"polygons":0', NONE))),
     ("1 2", "0 1 inf --bands --above", collection(
-        feature('"low":0,"high":1,"rule":">","area":0.5,"polygons":1', polygon(UPPER_LEFT)),
-        feature('"low":1,"high":null,"rule":">","area":0.5,"polygons":1', polygon(SECOND)))),
+        feature('"low":0,"high":1,"rule":">","area":0.5,"polygons":1', polygon(back(UPPER_LEFT))),
+        feature('"low":1,"high":null,"rule":">","area":0.5,"polygons":1', polygon(back(SECOND))))),
     ("1 2", "--interval 1 --above", collection(
-        feature('"value":1,"rule":">","area":0.5,"polygons":1', polygon(SECOND)))),
+        feature('"value":1,"rule":">","area":0.5,"polygons":1', polygon(back(SECOND))))),
     ("1 2", "--interval 1 --lines --above", collection(feature('"value":1,"rule":">","lines":1', line(*SECOND)))),
     ("0.1 0.3", "--interval 0.1 --above --counts", f"value 0.1\n{DIAMOND}value 0.2\n{DIAMOND}"),
     ("1 2", "--interval 1 --bands --above --counts", f"low 0\nhigh 1\n{DIAMOND}low 1\nhigh 2\n{DIAMOND}"),

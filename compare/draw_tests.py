@@ -126,6 +126,17 @@ class Tests:
         larger = [repr(math.nextafter(level, math.inf)) for level in levels]
         return ["-", *levels, *options.split(), "--above"], ["-", *larger, *options.split()]
 
+    def as_the_library_writes(self):
+        """In grid units a feature, which ./draw writes, has the geometry that the library writes of a figure alone."""
+        numbers = random.Random(3)
+        for k in range(8):
+            dx, dy = numbers.randint(2, 12), numbers.randint(2, 12)
+            given = "\n".join(" ".join(str(numbers.randint(0, 3)) for _ in range(dx)) for _ in range(dy))
+            for words, collected in [("2", "--levels"), ("1 3", "--bands"), ("1 3 --isobands", "--bands")]:
+                alone, feature = self.run(f"- {words}", given), self.run(f"- {words} {collected}", given)
+                same = alone[0] == feature[0] == 0 and b'"geometry":' + alone[1].strip() + b"}" in feature[1]
+                yield f"terrain {k}, {words} as a feature", same
+
     def whys(self):
         """However it is asked, what became of a ring is what document 01 makes of the rings, which --stream gives."""
         for asking in [ASKING_FOR_ONE, ASKING_FOR_ALL]:
@@ -289,8 +300,9 @@ class Tests:
         yield "no converter", (status, out) == (1, b"") and "none is installed: rsvg-convert, inkscape, magick" in said
 
     def all(self):
-        parts = [self.answers, self.streams, self.at_once, self.strictly_above, self.whys, self.handed_through_gdal]
-        for part in [*parts, self.read_as_gdal_reads, self.pictures, self.odd_pictures, self.png]:
+        parts = [self.answers, self.streams, self.at_once, self.strictly_above, self.as_the_library_writes, self.whys]
+        parts += [self.handed_through_gdal, self.read_as_gdal_reads, self.pictures, self.odd_pictures, self.png]
+        for part in parts:
             yield from part()
 
 

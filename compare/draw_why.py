@@ -1,5 +1,5 @@
 """What ./draw --why has to say of the rings of a contour, by document 01's words for area, containment and owners. A
-ring is its points in doubled coordinates. Part of compare/draw_tests."""
+ring is its points in doubled coordinates. Part of compare/draw_tests and of compare/outside."""
 
 from decimal import Decimal
 from fractions import Fraction

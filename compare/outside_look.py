@@ -113,14 +113,15 @@ def look_at_vertices(drawing, rings):
 
 
 def dropped_rings(drawing, draw, rings):
-    """The lines about the region that are no ring of its polygons, whichever way a ring runs."""
-    left = collections.Counter(str(sorted(ring[1:])) for ring in rings)
+    """The lines about the region that are no ring of its polygons. Each ring is a line, or one backwards from the same
+    first point; a band that is not the library's has rings of its own."""
+    if len(drawing.levels) > 1 and "--isobands" not in drawing.options:
+        return []
+    left = collections.Counter(str(min(ring, ring[::-1])) for ring in rings)
     dropped = []
-    if "--isobands" not in drawing.options:
-        return dropped
     lines = run(draw, drawing.file, *drawing.levels, "--lines", "--grid")
     for line in json.loads(lines)["coordinates"]:
-        key = str(sorted(line[1:]))
+        key = str(min(line, line[::-1]))
         if left[key] > 0:
             left[key] -= 1
         else:
@@ -150,7 +151,7 @@ def look_at_filling(drawing, polygons, dropped):
     dx, dy = len(samples[0]), len(samples)
     file, options = drawing.json, []
     if "--isobands" in drawing.options:
-        file, options = file.with_suffix(".all.json"), ["-add"]
+        file, options = file.with_suffix(".all.geojson"), ["-add"]
         together = polygons + [[ring] for ring in dropped]
         file.write_text(json.dumps({"type": "MultiPolygon", "coordinates": together}), encoding="ascii")
     found = filled(file, options, dx, dy)
@@ -221,7 +222,7 @@ def look_at_lines(drawing, draw):
 
 def look_at_contour(drawing, lines):
     """Smoothed and placed lines stand where gdal_contour draws them on the map: they have the same vertices."""
-    file = drawing.json.with_suffix(".contour.json")
+    file = drawing.json.with_suffix(".contour.geojson")
     levels = [word for level in drawing.levels for word in ("-fl", level)]
     run("gdal_contour", "-q", *levels, "-f", "GeoJSON", drawing.file, file)
     features = json.loads(file.read_text(encoding="ascii"))["features"]

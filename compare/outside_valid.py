@@ -59,12 +59,6 @@ def slices(terrain, option):
     return list(zip(levels, levels[1:])) if option == "--bands" else [(level, math.inf) for level in levels]
 
 
-def check_winding(polygons):
-    for polygon in polygons:
-        expect("exterior counterclockwise", polygon.exterior.is_ccw, True)
-        expect("holes counterclockwise", [hole.is_ccw for hole in polygon.interiors if hole.is_ccw], [])
-
-
 def look_at(terrain, feature, low, high):
     """One feature: valid polygons, exactly the samples of the slice, and the area that these come to."""
     figure = shape(feature["geometry"])
@@ -83,15 +77,14 @@ def look_at(terrain, feature, low, high):
     expected = area(samples) * terrain.cell_area()
     for what, found in [("area by shapely", figure.area), ("area", feature["properties"]["area"])]:
         expect(what + " as expected", math.isclose(found, expected, rel_tol=1e-9), True)
-    if terrain.cell is not None or terrain.step is not None:
-        check_winding(polygons)
     return figure
 
 
-def look_at_all(terrain, draw, option, file):
+def look_at_all(terrain, draw, option, folder):
     """All features of one run. Bands lie beside each other, and levels inside each other."""
     step = [] if terrain.step is None else ["--step={},{}".format(*terrain.step)]
-    text = run(draw, file, *terrain.levels, option, *step)
+    text = run(draw, terrain.write(folder), *terrain.levels, option, *step)
+    (folder / f"{terrain.name}{option}.json").write_text(text, encoding="ascii")
     read = json.loads(text, parse_constant=no_number)
     wanted = slices(terrain, option)
     expect("features", len(read["features"]), len(wanted))
@@ -111,10 +104,9 @@ def main(draw, examples, folder):
     expect("shapely finds a bow tie valid", Polygon([(0, 0), (1, 1), (1, 0), (0, 1)]).is_valid, False)
     looked_at, polygons, differ = 0, 0, 0
     for terrain in terrains(examples):
-        file = terrain.write(folder)
         for option in ["--levels", "--bands"]:
             try:
-                figures, parts = look_at_all(terrain, draw, option, file)
+                figures, parts = look_at_all(terrain, draw, option, folder)
                 looked_at, polygons = looked_at + figures, polygons + parts
             except (Differs, ValueError, KeyError) as why:
                 looked_at, differ = looked_at + 1, differ + 1

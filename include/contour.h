@@ -137,9 +137,9 @@
 
 /* The version of this header and of the library that was installed with it. */
 #define CONTOUR_VERSION_MAJOR 0
-#define CONTOUR_VERSION_MINOR 4
+#define CONTOUR_VERSION_MINOR 5
 #define CONTOUR_VERSION_PATCH 0
-#define CONTOUR_VERSION "0.4.0"
+#define CONTOUR_VERSION "0.5.0"
 
 /* What a call returns. */
 #define CONTOUR_OK 0u
@@ -468,10 +468,15 @@ uint32_t contour_geojson_length(const uint16_t *points, size_t points_words, con
 
 /*
  * Writes a ring set as GeoJSON: one MultiPolygon, its polygons by record number, each followed by its holes by
- * number, every ring in the order of its points. A coordinate is written as its half, as 3 or as 2.5. Dropped
- * holes are left out. Without polygons the coordinates are []. The polygon about one sample is
+ * number. A coordinate is written as its half, as 3 or as 2.5. Dropped holes are left out. Without polygons the
+ * coordinates are [].
  *
- *     {"type":"MultiPolygon","coordinates":[[[[1,0.5],[0.5,0],[0,0.5],[0.5,1],[1,0.5]]]]}
+ * Taken with y upward, as readers of maps take it, polygons run counterclockwise and holes clockwise, which RFC 7946
+ * (3.1.6) asks for, whichever way their points stand in the tables: a polygon of positive area is written backwards,
+ * and so is a hole of negative area, each from its first point; any other ring, of area 0 too, is written as it
+ * stands. The polygon about one sample, (2,1)(1,0)(0,1)(1,2)(2,1) in the tables, is
+ *
+ *     {"type":"MultiPolygon","coordinates":[[[[1,0.5],[0.5,1],[0,0.5],[0.5,0],[1,0.5]]]]}
  *
  * There is no newline behind it, and no null byte.
  *

@@ -69,7 +69,7 @@ impl Drawn {
     }
 
     /// A record's points, halved.
-    pub fn halves(&self, record: &[u32]) -> impl Iterator<Item = [f64; 2]> + '_ {
+    pub fn halves(&self, record: &[u32]) -> impl DoubleEndedIterator<Item = [f64; 2]> + '_ {
         let words = match &self.points {
             Points::Words(words) => words,
             Points::Floats(_) => unreachable!("the points of lines are not doubled"),

@@ -40,7 +40,8 @@ pub fn bench((name, make, threshold): Text, runs: usize) -> String {
     )
 }
 
-/// The plain writer's text. The holes of each polygon are gathered first.
+/// The plain writer's text. The holes of each polygon are gathered first. All rings of a contour run the other way than
+/// RFC 7946 wants, and are written backwards.
 fn plain(drawn: &Drawn) -> Vec<u8> {
     let records: Vec<&[u32]> = drawn.records().collect();
     let mut holes = vec![Vec::new(); records.len()];
@@ -53,6 +54,6 @@ fn plain(drawn: &Drawn) -> Vec<u8> {
     let polygons = with_holes.filter(|(record, _)| record[CLASS] == 0);
     geojson::text(polygons.map(|(polygon, holes)| {
         let rings = once(polygon).chain(holes);
-        rings.map(|record| drawn.halves(record))
+        rings.map(|record| drawn.halves(record).rev())
     }))
 }

@@ -3,7 +3,8 @@
 
 use std::io::Write;
 
-/// One MultiPolygon: the polygons in their order, each its rings, the exterior first, each ring its points.
+/// One MultiPolygon: the polygons in their order, each its rings, the exterior first, each ring its points as they are
+/// to be written.
 pub fn text<P, R>(polygons: impl IntoIterator<Item = P>) -> Vec<u8>
 where
     P: IntoIterator<Item = R>,

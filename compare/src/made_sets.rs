@@ -1,12 +1,13 @@
 //! Ring sets made by hand, in slopes that cells draw: outlines and walks, equal, reversed, begun elsewhere, pushed,
 //! twice as large, without area; and rings whose points overlap. Number 9 lets all of them pass. Classes and owners
-//! are as they come.
+//! are as they come. The rings of other sets are run the other way here too.
 
 use crate::directory::record;
 use crate::exact::LARGEST;
 use crate::lists::walk;
 use crate::oracle::halved;
 use crate::random::Random;
+use crate::records::{place, records};
 use crate::ring_sets::RingSet;
 use crate::text_checks::{random_classes, random_owner};
 
@@ -14,8 +15,28 @@ type Point = [i32; 2];
 /// A ring, its first point repeated last.
 type Made = Vec<Point>;
 
+/// A set of either kind.
+pub fn made(random: &mut Random) -> RingSet {
+    match random.below(4) {
+        0 => overlapping(random),
+        _ => related(random),
+    }
+}
+
+/// Each ring of a set run the other way or not, from the same first point.
+pub fn turn(random: &mut Random, set: &mut RingSet) {
+    for record in records(&set.directory) {
+        if random.once_in(2) {
+            let ring = &mut set.points[place(record)];
+            ring.reverse();
+            ring.chunks_exact_mut(2).for_each(|point| point.swap(0, 1));
+        }
+    }
+    set.right_areas();
+}
+
 /// Up to ten rings, each an outline or a walk, or made from one before. Any words may stand between them.
-pub fn related(random: &mut Random) -> RingSet {
+fn related(random: &mut Random) -> RingSet {
     let mut rings = vec![outline(random)];
     for _ in 0..random.below(10) {
         let from = random.below(rings.len());
@@ -42,7 +63,7 @@ pub fn related(random: &mut Random) -> RingSet {
 
 /// A list of points that comes back to its first one again and again. The rings are stretches of it, from there to
 /// there.
-pub fn overlapping(random: &mut Random) -> RingSet {
+fn overlapping(random: &mut Random) -> RingSet {
     let mut points = outline(random);
     let mut returns = vec![0, points.len() - 1];
     for _ in 0..random.between(1, 4) {

@@ -28,7 +28,6 @@ mod line_answers;
 mod line_checks;
 mod lines;
 mod lists;
-#[cfg(feature = "why")]
 mod made_sets;
 #[cfg_attr(not(feature = "why"), allow(dead_code))]
 mod moves;

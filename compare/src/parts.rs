@@ -7,7 +7,7 @@ use crate::program::Program;
 use crate::random::Random;
 use crate::rules::AT_LEAST;
 use crate::tally::Tally;
-use crate::text_checks::compare_drawn;
+use crate::text_checks::{compare_drawn, compare_turned};
 #[cfg(feature = "why")]
 use crate::why_parts;
 use crate::{
@@ -200,6 +200,7 @@ impl Plan {
         tally.note(&format!(
             "the text of the contours and bands of {grids} grids in every kind of room"
         ));
+        tally.note_texts();
     }
 
     fn compare_program(&self, tally: &mut Tally) {
@@ -310,6 +311,9 @@ fn listed_texts(tally: &mut Tally, random: &mut Random) -> u64 {
     tally.part("GeoJSON, every coordinate", |t| {
         text_checks::every_coordinate(t, random)
     });
+    tally.part("GeoJSON, either way round", |t| {
+        text_checks::either_way(t, random)
+    });
     tally.part("GeoJSON, refusal 9", |t| {
         set_faults::listed(t, random, text_checks::compare_any)
     });
@@ -333,6 +337,12 @@ fn random_texts(tally: &mut Tally, random: &mut Random) -> u64 {
     });
     tally.part("GeoJSON, damaged ring sets", |t| {
         damaged_sets::damaged(t, random, text_checks::compare_any)
+    });
+    tally.part("GeoJSON, ring sets of drawn slopes", |t| {
+        text_checks::made_sets(t, random)
+    });
+    tally.part("GeoJSON, rings run the other way", |t| {
+        grids += region_checks::every_shape(t, random, compare_turned)
     });
     grids
 }

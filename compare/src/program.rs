@@ -45,7 +45,7 @@ enum Feed {
 impl Program<'_> {
     /// Document 01's example, the listed inputs that pass, and terrains of every shape.
     pub fn good_inputs(&self, tally: &mut Tally, random: &mut Random) {
-        assert!(expected(EXAMPLE) == EXAMPLE_TEXT, "document 01's example");
+        assert!(expected(EXAMPLE) == EXAMPLE_TEXT, "the documents' example");
         for input in GOOD_INPUTS {
             self.listed(tally, random, input, true);
         }

@@ -11,10 +11,10 @@ use std::fmt::Write;
 const LONGEST_SIDE: usize = 32;
 const LARGEST: usize = 65_535;
 
-/// Document 01's example and what it prints.
+/// Document 01's example, and what it prints by document 02.
 pub const EXAMPLE: &[u8] = b"1 1 5\n5\n";
 pub const EXAMPLE_TEXT: &[u8] =
-    b"{\"type\":\"MultiPolygon\",\"coordinates\":[[[[1,0.5],[0.5,0],[0,0.5],[0.5,1],[1,0.5]]]]}\n";
+    b"{\"type\":\"MultiPolygon\",\"coordinates\":[[[[1,0.5],[0.5,1],[0,0.5],[0.5,0],[1,0.5]]]]}\n";
 
 /// Inputs that pass, where a neighbour does not.
 #[rustfmt::skip]

@@ -1,7 +1,8 @@
 //! Ring sets, as the writer and the calls that explain read them: points, a directory and the number of rings stated.
 //! What document 01 says of one is written down here from its records: number 9, and which polygons they make. Their
 //! text is written by two writers, `word_text` and `geojson`, and the latter also writes that of the crate's own
-//! polygons.
+//! polygons. Which rings are written backwards is found in two ways too: by document 02's rule for `word_text`, by RFC
+//! 7946 for `geojson`.
 
 use crate::declared::RECORD_WORDS;
 use crate::directory::{record, HOLE, NOBODY, POLYGON};
@@ -132,35 +133,61 @@ impl RingSet {
         records.iter().filter_map(|r| self.ring(r)).collect()
     }
 
-    /// The polygons of a set without fault, by record number, each its own ring and then its holes by number.
-    fn polygons(&self) -> Option<Vec<Vec<&[u16]>>> {
+    /// The polygons of a set without fault, by record number, each its own record and then those of its holes by
+    /// number.
+    fn polygons(&self) -> Option<Vec<Vec<&[u32]>>> {
         if self.is_faulty() {
             return None;
         }
         let records = self.records();
         let numbered = (0..).zip(&records);
         let polygons = numbered.filter(|(_, record)| record[CLASS] == POLYGON);
-        let rings = polygons.map(|(number, polygon)| {
+        let with_holes = polygons.map(|(number, &polygon)| {
             let holes = records.iter().filter(|r| fate(r) == [HOLE, number]);
-            let rings = once(polygon).chain(holes).map(|record| self.ring(record));
-            rings.flatten().collect()
+            once(polygon).chain(holes.copied()).collect()
         });
-        Some(rings.collect())
+        Some(with_holes.collect())
+    }
+
+    /// Class and area of each ring that stands in the text of a set without fault.
+    pub fn in_text(&self) -> Vec<(u32, i64)> {
+        let records = self.records().into_iter();
+        let drawn = records.filter(|record| fate(record) != [HOLE, NOBODY]);
+        drawn.map(|record| (record[CLASS], area(record))).collect()
     }
 
     /// The text of a set without fault, from its words; from floats it has to be the same.
     pub fn text(&self) -> Option<Vec<u8>> {
         let polygons = self.polygons()?;
-        let text = word_text::text(&polygons);
-        let floats = polygons.iter().map(|rings| {
-            let rings = rings.iter();
-            rings.map(|ring| coordinates(halved(ring)))
+        let words = polygons.iter().map(|records| {
+            let rings = records.iter();
+            rings.map(|record| self.written(record)).collect()
+        });
+        let text = word_text::text(&words.collect::<Vec<_>>());
+        let floats = polygons.iter().map(|records| {
+            let rings = records.iter().filter_map(|record| self.ring(record));
+            right_handed(rings.map(halved))
         });
         assert!(
             geojson::text(floats) == text,
             "the text from floats is not that from words"
         );
         Some(text)
+    }
+
+    /// The words of a record's points in the order in which document 02 has them written: backwards from the first
+    /// point, which is also the last, for a polygon of positive area and for a hole of negative area.
+    fn written(&self, record: &[u32]) -> Vec<u16> {
+        let ring = self.ring(record).expect("a record without fault");
+        let area = signed_area(&halved(ring));
+        let backwards = match record[CLASS] {
+            POLYGON => area > 0,
+            _ => area < 0,
+        };
+        match backwards {
+            true => ring.rchunks_exact(2).flatten().copied().collect(),
+            false => ring.to_vec(),
+        }
     }
 }
 
@@ -178,10 +205,33 @@ pub fn drawn_text(drawing: &Drawing) -> Vec<u8> {
 fn crate_text(drawing: &Drawing) -> Vec<u8> {
     geojson::text(drawing.polygons.iter().map(|polygon| {
         let rings = once(polygon.exterior()).chain(polygon.interiors());
-        rings.map(|LineString(points)| coordinates(points.clone()))
+        right_handed(rings.map(|LineString(points)| points.clone()))
     }))
 }
 
-fn coordinates(points: Vec<Pt>) -> impl Iterator<Item = [f64; 2]> {
-    points.into_iter().map(|p| [p.x, p.y])
+/// The rings of a polygon, the exterior first, by the right-hand rule of RFC 7946, section 3.1.6: the exterior
+/// counterclockwise, the others clockwise. A ring that runs the other way is given in reverse, and one that runs no way
+/// is left.
+fn right_handed(
+    rings: impl Iterator<Item = Vec<Pt>>,
+) -> impl Iterator<Item = impl Iterator<Item = [f64; 2]>> {
+    rings.enumerate().map(|(number, mut ring)| {
+        let counterclockwise = turning(&ring);
+        let wrong = match number {
+            0 => counterclockwise < 0.0,
+            _ => counterclockwise > 0.0,
+        };
+        if wrong {
+            ring.reverse();
+        }
+        ring.into_iter().map(|p| [p.x, p.y])
+    })
+}
+
+/// Above 0 for a ring that runs counterclockwise, x to the right and y upward; below 0 for one that runs clockwise.
+fn turning(ring: &[Pt]) -> f64 {
+    let sides = ring.windows(2);
+    sides
+        .map(|side| side[0].x * side[1].y - side[1].x * side[0].y)
+        .sum()
 }

@@ -22,7 +22,7 @@ const FATES: [[u32; 2]; 5] = [
 ];
 const RINGS: u32 = FATES.len() as u32;
 /// A ring without area: there and back.
-const FLAT: [u16; 8] = [3, 3, 9, 3, 5, 3, 3, 3];
+pub const FLAT: [u16; 8] = [3, 3, 9, 3, 5, 3, 3, 3];
 
 /// Compares one ring set, faulty or not.
 pub type Compare = fn(&mut Tally, &mut Random, &RingSet);
@@ -310,8 +310,7 @@ fn owners_of_holes(cases: &mut Cases) {
 /// two that run round so often that their areas need both words.
 fn areas(cases: &mut Cases) {
     let mut tried = Tried::default();
-    let round = [0, 0, LARGEST, 0, LARGEST, LARGEST, 0, LARGEST];
-    let wound = [&round.repeat(40)[..], &round[..2]].concat();
+    let wound = wound(40);
     for ring in [&RING[..], &turned(&RING), &FLAT, &wound, &turned(&wound)] {
         for record in 0..RINGS {
             let mut set = sample_with(record, ring);
@@ -326,8 +325,14 @@ fn areas(cases: &mut Cases) {
     cases.tally.area_faults(tried);
 }
 
+/// A ring that runs round the largest square so many times. Its area is 2^27 times as many.
+pub fn wound(rounds: usize) -> Vec<u16> {
+    let round = [0, 0, LARGEST, 0, LARGEST, LARGEST, 0, LARGEST];
+    [&round.repeat(rounds)[..], &round[..2]].concat()
+}
+
 /// A ring run the other way.
-fn turned(ring: &[u16]) -> Vec<u16> {
+pub fn turned(ring: &[u16]) -> Vec<u16> {
     ring.chunks_exact(2).rev().flatten().copied().collect()
 }
 

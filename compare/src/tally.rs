@@ -15,6 +15,8 @@ pub struct Tally {
     float_asked: u64,
     float_differs: u64,
     area_faults: Tried,
+    /// How many exteriors and holes stood in texts, of an area below 0, of 0 and above 0.
+    in_texts: [[u64; 3]; 2],
     notes: Vec<String>,
     lacks: bool,
 }
@@ -59,6 +61,26 @@ impl Tally {
     pub fn area_faults(&mut self, tried: Tried) {
         tried.hold();
         self.area_faults.add(tried);
+    }
+
+    /// Class and area of the rings of a text.
+    pub fn in_text(&mut self, rings: Vec<(u32, i64)>) {
+        for (class, area) in rings {
+            self.in_texts[class as usize][(area.signum() + 1) as usize] += 1;
+        }
+    }
+
+    /// Says which rings the texts had. The run stops if there were none of some class and sign.
+    pub fn note_texts(&mut self) {
+        let counts = self.in_texts;
+        assert!(
+            !counts.concat().contains(&0),
+            "rings that no text had: {counts:?}"
+        );
+        let [exteriors, holes] = counts.map(|[below, none, above]| {
+            format!("{above} of an area above 0, {none} of 0, {below} below 0")
+        });
+        self.note(&format!("in texts: exteriors, {exteriors}; holes, {holes}"));
     }
 
     /// Runs one part of the comparison and says how much it compared.

@@ -154,6 +154,7 @@ impl Sheet {
 pub fn compare_set(tally: &mut Tally, random: &mut Random, set: &RingSet, expected: Expected) {
     let rooms = match expected {
         Expected::Text(text) => {
+            tally.in_text(set.in_text());
             let need = text.len();
             let (less, more) = (random.below(need), need + random.between(1, MOST_SPARE));
             vec![need, need - 1, 0, less, more]

@@ -5,10 +5,12 @@ use crate::declared::RECORD_WORDS;
 use crate::directory::{record, HOLE, NOBODY, POLYGON};
 use crate::drawing::Drawing;
 use crate::exact::{LARGEST, MOST_POINTS};
+use crate::made_sets::{made, turn};
 use crate::oracle::halved;
 use crate::random::Random;
 use crate::records::{area, set_area, COUNT, FIRST, OWNER};
 use crate::ring_sets::{drawn_text, RingSet};
+use crate::set_faults::{turned, wound, FLAT};
 use crate::tally::Tally;
 use crate::text_calls::{compare_set, Expected};
 
@@ -31,6 +33,46 @@ pub fn every_coordinate(tally: &mut Tally, random: &mut Random) {
     let ring: Vec<u16> = points.chain([0, LARGEST]).collect();
     set.push(&ring, POLYGON, 0);
     compare_good(tally, random, &set);
+}
+
+/// Rings as polygon and as hole, run either way: round once; round so often that the low word of the area has the other
+/// sign, or is 0; and without area, there and back or on one point.
+pub fn either_way(tally: &mut Tally, random: &mut Random) {
+    for ring in [
+        &wound(1)[..],
+        &wound(24),
+        &wound(32),
+        &FLAT,
+        &FLAT[..2].repeat(4),
+    ] {
+        for ring in [ring, &turned(ring)] {
+            let mut set = RingSet::default();
+            set.push(ring, POLYGON, 0);
+            set.push(ring, HOLE, 0);
+            compare_good(tally, random, &set);
+        }
+    }
+}
+
+/// A contour or band with each ring run the other way or not: the text is that of the crate's polygons all the same.
+pub fn compare_turned(tally: &mut Tally, random: &mut Random, asked: &Asked) -> Drawing {
+    let drawing = Drawing::of(asked).expect("a question that passes");
+    let (mut set, text) = (RingSet::of(&drawing), drawn_text(&drawing));
+    turn(random, &mut set);
+    assert!(
+        set.text().as_ref() == Some(&text),
+        "another text of rings run the other way"
+    );
+    compare_set(tally, random, &set, Expected::Text(&text));
+    drawing
+}
+
+/// Sets made by hand, in slopes that cells draw.
+pub fn made_sets(tally: &mut Tally, random: &mut Random) {
+    for _ in 0..SETS {
+        let set = made(random);
+        compare_good(tally, random, &set);
+    }
 }
 
 /// Sets that no terrain need have: records in any order, and points that belong to several records or to none.

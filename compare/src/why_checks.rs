@@ -6,8 +6,9 @@ use crate::directory::{HOLE, POLYGON};
 use crate::drawing::Drawing;
 use crate::fates::Rings;
 use crate::kinds::Kind;
+use crate::made_sets::turn;
 use crate::random::Random;
-use crate::records::{self, place, records, records_mut, CLASS, OWNER};
+use crate::records::{self, records, records_mut, CLASS, OWNER};
 use crate::ring_sets::RingSet;
 use crate::rings::{random_grid, small_grids, Grid};
 use crate::shapes::{self, LONGEST_SIDE};
@@ -63,18 +64,6 @@ fn relabel(random: &mut Random, set: &mut RingSet) {
     }
 }
 
-/// Each ring run the other way or not: polygons become holes, most of them dropped, and holes polygons.
-fn turn(random: &mut Random, set: &mut RingSet) {
-    for record in records(&set.directory) {
-        if random.once_in(2) {
-            let ring = &mut set.points[place(record)];
-            ring.reverse();
-            ring.chunks_exact_mut(2).for_each(|point| point.swap(0, 1));
-        }
-    }
-    set.right_areas();
-}
-
 /// A terrain's contour.
 pub fn compare_grid(tally: &mut Tally, random: &mut Random, grid: &Grid) {
     compare_asked(tally, random, &Asked::new(Kind::Contours, grid));
@@ -102,7 +91,7 @@ pub fn other_records(tally: &mut Tally, random: &mut Random) {
     changed_grids(tally, random, relabel);
 }
 
-/// Rings run the other way.
+/// Rings run the other way: polygons become holes, most of them dropped, and holes polygons.
 pub fn turned_rings(tally: &mut Tally, random: &mut Random) {
     changed_grids(tally, random, turn);
     compare_changed(tally, random, &chequerboard(), turn);

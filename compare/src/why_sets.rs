@@ -4,7 +4,7 @@ use crate::asked::Asked;
 use crate::fates::Rings;
 use crate::grid_refusals::{mixed_shape, speckled, MOST_VALUES};
 use crate::kinds::Kind;
-use crate::made_sets::{overlapping, related};
+use crate::made_sets::made;
 use crate::random::Random;
 use crate::ring_sets::RingSet;
 use crate::tally::Tally;
@@ -62,10 +62,7 @@ pub fn any_slopes(tally: &mut Tally, random: &mut Random) {
 /// Sets of drawn slopes.
 pub fn drawn_slopes(tally: &mut Tally, random: &mut Random) {
     for _ in 0..SETS {
-        let set = match random.below(4) {
-            0 => overlapping(random),
-            _ => related(random),
-        };
+        let set = made(random);
         assert!(!set.is_faulty(), "a set with a fault");
         compare_any(tally, random, &set);
     }

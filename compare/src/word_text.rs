@@ -3,8 +3,8 @@
 //! down from document 01 and RFC 7946 and share nothing, so that a slip of form in one of them stops the run.
 
 /// One MultiPolygon: the polygons in their order, each its rings, the exterior first, each ring the words of its
-/// points, of which it has some.
-pub fn text(polygons: &[Vec<&[u16]>]) -> Vec<u8> {
+/// points, of which it has some, as they are to be written.
+pub fn text(polygons: &[Vec<Vec<u16>>]) -> Vec<u8> {
     let mut text = String::from("{\"type\":\"MultiPolygon\",\"coordinates\":[");
     for (place, point) in points(polygons) {
         text += before(place);
@@ -20,7 +20,7 @@ pub fn text(polygons: &[Vec<&[u16]>]) -> Vec<u8> {
 type Place = [usize; 3];
 
 /// All points with their places.
-fn points<'a>(polygons: &'a [Vec<&'a [u16]>]) -> impl Iterator<Item = (Place, &'a [u16])> {
+fn points(polygons: &[Vec<Vec<u16>>]) -> impl Iterator<Item = (Place, &[u16])> {
     let numbered = polygons.iter().enumerate();
     let rings = numbered.flat_map(|(p, rings)| {
         let numbered = rings.iter().enumerate();

@@ -7,7 +7,8 @@ use crate::{area, Point, Refusal, Regions};
 
 /// Polygons, drawn or made by hand, as GeoJSON text of the form of
 /// [`contours_geojson`](crate::Terrain::contours_geojson). They are written in the order of the lists, whatever
-/// the numbers and areas of their rings. The dropped holes are checked as the others are, and left out.
+/// the numbers and areas of their rings, and as RFC 7946 asks, whichever way their points run. The dropped holes are
+/// checked as the others are, and left out.
 ///
 /// # Errors
 ///

@@ -194,6 +194,9 @@ impl<'a> Terrain<'a> {
     /// by its holes, in the units of columns and rows. Sample (column, row) stands at (column + 0.5, row + 0.5).
     /// Without polygons the coordinates are `[]`.
     ///
+    /// Taken with y upward, polygons run counterclockwise and holes clockwise, as RFC 7946 asks: rings of a contour
+    /// are written backwards, each from its first point.
+    ///
     /// # Errors
     ///
     /// As of [`rings`](Terrain::rings).
@@ -201,7 +204,7 @@ impl<'a> Terrain<'a> {
     /// ```
     /// # fn main() -> Result<(), nigrulent::Refusal> {
     /// let text = nigrulent::Terrain::new(&[1.0], 1, 1)?.contours_geojson(1.0)?;
-    /// let ring = "[[1,0.5],[0.5,0],[0,0.5],[0.5,1],[1,0.5]]";
+    /// let ring = "[[1,0.5],[0.5,1],[0,0.5],[0.5,0],[1,0.5]]";
     /// assert_eq!(text, format!(r#"{{"type":"MultiPolygon","coordinates":[[{ring}]]}}"#));
     /// # Ok(())
     /// # }

@@ -171,6 +171,27 @@ fn polygons_made_by_hand_need_no_area() {
     }
 }
 
+/// Whichever way a ring runs in the vectors, the text has it as RFC 7946 asks.
+#[test]
+fn reversed_rings_have_the_same_text() {
+    for_terrains(|terrain, level| {
+        let pair = [level.threshold, level.threshold + 1.0];
+        let band = terrain.isobands(&pair, level.rule, 0)?;
+        for mut regions in [terrain.contours(level)?, band] {
+            let text = geojson(&regions)?;
+            for polygon in &mut regions.polygons {
+                polygon.exterior.points.reverse();
+            }
+            assert_eq!(geojson(&regions)?, text);
+            for hole in regions.polygons.iter_mut().flat_map(|p| &mut p.interiors) {
+                hole.points.reverse();
+            }
+            assert_eq!(geojson(&regions)?, text);
+        }
+        Ok(())
+    });
+}
+
 #[test]
 fn reused_tables_hold_what_tables_of_one_call_hold() {
     let (mut tables, mut text) = (Tables::new(), Vec::new());

@@ -2,7 +2,7 @@
 use mathlib.Core.Path.{_≡_}
 use mathlib.Core.Bool.{Bool, true, false, cond}
 use mathlib.Core.List.{List}
-use Prim.Native.Nat.{ℕ, zero, suc, _+_, _*_, _≤_, _<_}
+use Prim.Native.Nat.{ℕ, zero, suc, _+_, _*_, _≤_}
 use native.Mathlib.Omega.{arith}
 use lib.Dec.{eqb}
 use lib.ListN.{length}
@@ -10,11 +10,12 @@ use Rattle.scope.specs.Limits.{noOwner}
 use Rattle.scope.specs.Pairs.{sumFrom}
 use Rattle.scope.specs.GeoJson.{countAt, wordsIn, ringSetRefused, geoJsonText}
 use Rattle.laws.proofs.Sums.{sum-last}
+use Rattle.laws.proofs.Words.{words-in-length}
 use Rattle.ringset.specs.declared.Record.{Record}
 use Rattle.ringset.specs.OneRecord.{recordAt, shapeRefused}
 use Rattle.ringset.proofs.Laws.{sound, sound-shape}
 use Rattle.geotext.specs.Shares.{ringBytes, recordShare}
-use Rattle.geotext.proofs.Lengths.{words-in-length, letters-few, ring-length}
+use Rattle.geotext.proofs.Lengths.{letters-few, ring-length}
 use Rattle.geotext.proofs.Shares.{shareAt}
 use Rattle.geotext.proofs.Texts.{text-length}
 

@@ -1,19 +1,19 @@
 -- How long texts are: a coordinate's, texts with commas between them, and a ring's, by the words that hold it. Assumes nothing.
 use mathlib.Core.Path.{_≡_, refl, _∙_}
 use mathlib.Core.Bool.{Bool, true, false, cond}
-use mathlib.Core.List.{List, [], _∷_, _++_, map}
-use Prim.Native.Nat.{ℕ, zero, suc, _+_, _*_, _/_, _%_, _^_, _≤_, _<_}
+use mathlib.Core.List.{List, [], _∷_, _++_, map, map-append, reverse, reverse-cons}
+use Prim.Native.Nat.{ℕ, zero, suc, _+_, _-_, _*_, _/_, _%_, _^_, _≤_, _<_}
 use native.Mathlib.Decide.{decLt}
 use native.Mathlib.Omega.{arith}
 use lib.Dec.{ltb, eqb}
-use lib.ListN.{length, drop, length-append, length-drop}
-use lib.Seq.{length-take-le}
+use lib.ListN.{length, length-append}
 use borrow.Author.Tests.{ltb-false, eqb-true, eqb-false}
 use Rattle.scope.specs.Limits.{coordinateLimit}
+use Rattle.scope.specs.Stitching.{Line}
 use Rattle.scope.specs.Area.{points, anyAbove}
-use Rattle.scope.specs.GeoJson.{wordsIn, decimal, coordinateText, joined, bracketed, pointText, ringText}
+use Rattle.scope.specs.GeoJson.{wordsIn, decimal, coordinateText, joined, bracketed, pointText, ringText, writtenOrder}
 use Rattle.laws.proofs.Tests.{neither}
-use Rattle.laws.proofs.Total.{total}
+use Rattle.laws.proofs.Total.{total, total-append}
 use Rattle.geotext.specs.Pieces.{digitText}
 use Rattle.geotext.proofs.Digits.{digit-below, digit-reached, digits-by-units}
 
@@ -87,13 +87,39 @@ points-length (x ∷ []) n h = absurd (omega arith)
 points-length (x ∷ y ∷ ws) zero h = absurd (omega arith)
 points-length (x ∷ y ∷ ws) (suc n) h = omega (arith, point-length x y, points-length ws n (omega arith))
 
-pub words-in-length : (ps : List ℕ) (first count : ℕ) → 2 * (first + count) ≤ length ps → length (wordsIn ps first count) ≡ 2 * count
-unfolding wordsIn
-words-in-length ps first count enough = length-take-le (2 * count) (drop (2 * first) ps) (simp length-drop (omega arith))
-
 pub empty-ring-length : (ps : List ℕ) (first : ℕ) → length (ringText (points (wordsIn ps first 0))) ≡ 2
 unfolding wordsIn ringText points bracketed joined
 empty-ring-length ps first = refl
+
+-- ---- a ring's text is as long backwards
+
+total-reversed : (ts : List (List ℕ)) → total commaed (reverse ts) ≡ total commaed ts
+unfolding total
+total-reversed [] = refl
+total-reversed (t ∷ ts) = rw (reverse-cons t ts) (omega (arith, total-append commaed (reverse ts) (t ∷ []), total-reversed ts))
+
+pub joined-bytes : (ts : List (List ℕ)) → length (joined ts) ≡ total commaed ts - 1
+unfolding total joined
+joined-bytes [] = omega arith
+joined-bytes (t ∷ ts) = joined-length t ts ∙ omega arith
+
+texts-reversed : (l : Line) → map pointText (reverse l) ≡ reverse (map pointText l)
+texts-reversed [] = refl
+texts-reversed (p ∷ l) = rw (reverse-cons p l, reverse-cons (pointText p) (map pointText l), map-append pointText (reverse l) (p ∷ []), texts-reversed l)
+
+pub written-length : (back : Bool) (l : Line) → length (ringText (writtenOrder back l)) ≡ length (ringText l)
+unfolding ringText writtenOrder
+written-length false l = refl
+written-length true l =
+    rw (texts-reversed l)
+    (omega (
+      arith,
+      bracketed-length (joined (reverse (map pointText l))),
+      bracketed-length (joined (map pointText l)),
+      joined-bytes (reverse (map pointText l)),
+      joined-bytes (map pointText l),
+      total-reversed (map pointText l),
+    ))
 
 pub ring-length : (ws : List ℕ) (n : ℕ) → length ws ≡ 2 * n → 0 < n → length (ringText (points ws)) ≡ total letters ws + 4 * n + 1
 unfolding points total ringText

@@ -8,11 +8,12 @@ use lib.Dec.{eqb}
 use borrow.Author.Tests.{eq-eqb, ne-eqb}
 use Rattle.scope.specs.Limits.{pointLimit, noOwner}
 use Rattle.scope.specs.GeoJson.{wordsIn}
+use Rattle.laws.proofs.Words.{words-in-length}
 use Rattle.ringset.specs.declared.Record.{Record}
 use Rattle.ringset.specs.OneRecord.{recordAt, shapeRefused}
 use Rattle.ringset.proofs.Laws.{sound-shape}
 use Rattle.geotext.specs.Shares.{ringBytes, recordShare}
-use Rattle.geotext.proofs.Lengths.{words-in-length, letters-few, ring-length}
+use Rattle.geotext.proofs.Lengths.{letters-few, ring-length}
 
 -- the share of record k
 abbrev pub shareAt : List ℕ → List ℕ → ℕ → ℕ

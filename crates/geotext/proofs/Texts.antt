@@ -12,26 +12,21 @@ use borrow.Author.Tests.{eq-eqb, ne-eqb}
 use Rattle.scope.specs.Limits.{pointLimit, noOwner}
 use Rattle.scope.specs.Cells.{when}
 use Rattle.scope.specs.Pairs.{sumFrom}
-use Rattle.scope.specs.GeoJson.{classAt, ownerAt, ringWordsAt, ringAt, isPolygon, isHole, ringSetRefused, isHoleOf, joined, ringText, polygonNumbers, holeNumbers, polygonText, opening, geoJsonText}
+use Rattle.scope.specs.GeoJson.{classAt, ownerAt, ringWordsAt, ringAt, isPolygon, isHole, ringSetRefused, isHoleOf, joined, ringText, writtenAt, polygonNumbers, holeNumbers, polygonText, opening, geoJsonText}
 use Rattle.laws.proofs.Total.{total}
 use Rattle.ringset.specs.OneRecord.{recordAt}
 use Rattle.ringset.proofs.Laws.{Sound, sound}
 use Rattle.geotext.specs.Shares.{ringBytes, recordShare}
-use Rattle.geotext.proofs.Lengths.{commaed, joined-length, bracketed-length}
+use Rattle.geotext.proofs.Lengths.{commaed, joined-length, bracketed-length, joined-bytes, written-length}
 use Rattle.geotext.proofs.Shares.{shareAt, polygon-share, dropped-share, owned-share, share-few}
 use Rattle.geotext.proofs.Sums.{sum-same, sum-both, sum-exchanged, sum-of-none, sum-of-one, sum-when, sum-bounded, numbers-total}
 
 -- ---- joined texts of numbers
 
-total-of-texts : (f : ℕ → List ℕ) (ks : List ℕ) → total commaed (map f ks) ≡ total (λ k. commaed (f k)) ks
+total-of-texts : (f : ℕ → List ℕ) (bytes : ℕ → ℕ) → ((k : ℕ) → commaed (f k) ≡ bytes k) → (ks : List ℕ) → total commaed (map f ks) ≡ total bytes ks
 unfolding total
-total-of-texts f [] = refl
-total-of-texts f (k ∷ ks) = rw (total-of-texts f ks)
-
-joined-bytes : (ts : List (List ℕ)) → length (joined ts) ≡ total commaed ts - 1
-unfolding total joined
-joined-bytes [] = omega arith
-joined-bytes (t ∷ ts) = joined-length t ts ∙ omega arith
+total-of-texts f bytes same [] = refl
+total-of-texts f bytes same (k ∷ ks) = rw (same k, total-of-texts f bytes same ks)
 
 when-sum : (a b : ℕ) (t : Bool) → when (a + b) t ≡ when a t + when b t
 when-sum a b true = refl
@@ -48,14 +43,20 @@ module _ (ps directory : List ℕ) (rings : ℕ) where
   abbrev behind : ℕ → ℕ → ℕ
   behind k h = when (suc (ringBytes ps (recordAt directory h))) (isHoleOf directory k h)
 
+  -- a ring has as many bytes backwards
+  ring-bytes : (k : ℕ) → length (ringText (writtenAt ps directory k)) ≡ ringBytes ps (recordAt directory k)
+  unfolding writtenAt ringBytes ringAt ringWordsAt recordAt
+  ring-bytes k = written-length _ (ringAt ps directory k)
+
   polygon-bytes : (k : ℕ) → commaed (polygonText ps directory rings k) ≡ ringBytes ps (recordAt directory k) + 3 + sumFrom (behind k) 0 rings
-  unfolding polygonText ringBytes holeNumbers ringAt ringWordsAt recordAt
+  unfolding polygonText holeNumbers
   polygon-bytes k =
       omega (
         arith,
-        bracketed-length (joined (map (λ r. ringText (ringAt ps directory r)) (k ∷ holeNumbers directory rings k))),
-        joined-length (ringText (ringAt ps directory k)) (map (λ r. ringText (ringAt ps directory r)) (holeNumbers directory rings k)),
-        total-of-texts (λ r. ringText (ringAt ps directory r)) (holeNumbers directory rings k),
+        bracketed-length (joined (map (λ r. ringText (writtenAt ps directory r)) (k ∷ holeNumbers directory rings k))),
+        joined-length (ringText (writtenAt ps directory k)) (map (λ r. ringText (writtenAt ps directory r)) (holeNumbers directory rings k)),
+        ring-bytes k,
+        total-of-texts (λ r. ringText (writtenAt ps directory r)) (λ h. suc (ringBytes ps (recordAt directory h))) (λ h. ap suc (ring-bytes h)) (holeNumbers directory rings k),
         numbers-total (isHoleOf directory k) (λ h. suc (ringBytes ps (recordAt directory h))) rings,
       )
 
@@ -64,7 +65,7 @@ module _ (ps directory : List ℕ) (rings : ℕ) where
       + sumFrom (λ h. sumFrom (λ k. when (behind k h) (isPolygon directory k)) 0 rings) 0 rings
   unfolding polygonNumbers
   polygons-bytes =
-      total-of-texts (polygonText ps directory rings) (polygonNumbers directory rings)
+      total-of-texts (polygonText ps directory rings) (λ k. commaed (polygonText ps directory rings k)) (λ k. refl) (polygonNumbers directory rings)
       ∙ numbers-total (isPolygon directory) (λ k. commaed (polygonText ps directory rings k)) rings
       ∙ sum-same (λ k. when (commaed (polygonText ps directory rings k)) (isPolygon directory k))
       (λ k. when (ringBytes ps (recordAt directory k) + 3) (isPolygon directory k) + sumFrom (λ h. when (behind k h) (isPolygon directory k)) 0 rings) rings

@@ -11,9 +11,9 @@ ghost use mathlib.Core.List.{[], _∷_};
 ghost use lib.Seq.{sets};
 ghost use Rattle.scope.specs.Limits.{pointLimit};
 ghost use Rattle.scope.specs.Area as Area;
-ghost use Rattle.scope.specs.GeoJson.{wordsIn, ringSetRefused, decimal, coordinateText, pointText, ringText, geoJsonText};
+ghost use Rattle.scope.specs.GeoJson.{wordsIn, ringSetRefused, decimal, coordinateText, pointText, ringText, writtenOrder, geoJsonText};
 ghost use Rattle.ringset.specs.OneRecord.{shapeRefused};
-ghost use Rattle.geotext.specs.Pieces.{digitText, pointTexts};
+ghost use Rattle.geotext.specs.Pieces.{digitText, pointTexts, nextOf};
 ghost use Rattle.geotext.specs.Shares.{recordShare};
 
 // The bytes of a text that are no digits of a whole number.
@@ -135,20 +135,35 @@ fn ring_length(points: &[u16], first: u32, count: u32) -> u64
     sum + 4 * (count as u64) + 1
 }
 
-// Writes the texts of `count` points with commas between them, from the point of number `first` and from byte `at` on, and answers the number of the byte
-// behind them.
-fn put_points(points: &[u16], first: u32, count: u32, text: &mut [u8], at: usize) -> usize
+// Which of a ring's points is the next, from 0, where so many of `count` are left to be written: backwards, or as stored.
+fn next_of(count: u32, left: u32, back: bool) -> u32
+    requires { ⌜ 0 < left ⌝ }
+    requires { ⌜ left ≤ count ⌝ }
+    ensures { λ r. ⌜ r ≡ nextOf count left back ⌝ }
+{
+    if back { left - 1 } else { count - left }
+}
+
+// Writes the texts of `count` points with commas between them, those from the point of number `first` on, backwards or as stored, from byte `at` on, and answers
+// the number of the byte behind them.
+fn put_points(
+    points: &[u16],
+    first: u32,
+    count: u32,
+    back: bool,
+    text: &mut [u8],
+    at: usize,
+) -> usize
     requires { ⌜ 2 * (first + count) ≤ length (now points) ⌝ }
-    requires { ⌜ at + length (pointTexts (Area.points (wordsIn (now points) first count))) ≤ length (now text) ⌝ }
-    ensures { λ r. ⌜ r ≡ at + length (pointTexts (Area.points (wordsIn (now (points .entry)) first count))) ⌝ }
-    ensures { λ _. ⌜ now (text .exit) ≡ sets (now (text .entry)) at (pointTexts (Area.points (wordsIn (now (points .entry)) first count))) ⌝ }
+    requires { ⌜ at + length (pointTexts (writtenOrder back (Area.points (wordsIn (now points) first count)))) ≤ length (now text) ⌝ }
+    ensures { λ r. ⌜ r ≡ at + length (pointTexts (writtenOrder back (Area.points (wordsIn (now (points .entry)) first count)))) ⌝ }
+    ensures { λ _. ⌜ now (text .exit) ≡ sets (now (text .entry)) at (pointTexts (writtenOrder back (Area.points (wordsIn (now (points .entry)) first count)))) ⌝ }
 {
     let mut place = at;
-    let mut i = 2 * (first as usize);
     let mut left = count;
     while 0 < left {
+        let i = 2 * (first as usize + next_of(count, left, back) as usize);
         place = put_point(text, place, points[i], points[i + 1]);
-        i += 2;
         left -= 1;
         if 0 < left {
             text[place] = COMMA;
@@ -158,16 +173,22 @@ fn put_points(points: &[u16], first: u32, count: u32, text: &mut [u8], at: usize
     place
 }
 
-// Writes a ring's text from byte `at` on, and answers the number of the byte behind it.
-pub fn put_ring(points: &[u16], first: u32, count: u32, text: &mut [u8], at: usize) -> usize
+// Writes a ring's text from byte `at` on, its points backwards or as stored, and answers the number of the byte behind it.
+pub fn put_ring(
+    points: &[u16],
+    first: u32,
+    count: u32,
+    back: bool,
+    text: &mut [u8],
+    at: usize,
+) -> usize
     requires { ⌜ 2 * (first + count) ≤ length (now points) ⌝ }
-    requires { ⌜ count ≤ pointLimit ⌝ }
-    requires { ⌜ at + length (ringText (Area.points (wordsIn (now points) first count))) ≤ length (now text) ⌝ }
-    ensures { λ r. ⌜ r ≡ at + length (ringText (Area.points (wordsIn (now (points .entry)) first count))) ⌝ }
-    ensures { λ _. ⌜ now (text .exit) ≡ sets (now (text .entry)) at (ringText (Area.points (wordsIn (now (points .entry)) first count))) ⌝ }
+    requires { ⌜ at + length (ringText (writtenOrder back (Area.points (wordsIn (now points) first count)))) ≤ length (now text) ⌝ }
+    ensures { λ r. ⌜ r ≡ at + length (ringText (writtenOrder back (Area.points (wordsIn (now (points .entry)) first count)))) ⌝ }
+    ensures { λ _. ⌜ now (text .exit) ≡ sets (now (text .entry)) at (ringText (writtenOrder back (Area.points (wordsIn (now (points .entry)) first count)))) ⌝ }
 {
     text[at] = OPENING_BRACKET;
-    let end = put_points(points, first, count, text, at + 1);
+    let end = put_points(points, first, count, back, text, at + 1);
     text[end] = CLOSING_BRACKET;
     end + 1
 }

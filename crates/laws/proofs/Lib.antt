@@ -28,3 +28,4 @@ pub mod Drawn
 pub mod LineWords
 pub mod Stored
 pub mod Borders
+pub mod Complement

@@ -50,7 +50,7 @@ unfolding classesFrom
 classes-length i all [] = refl
 classes-length i all (ring ∷ rings) = ap suc (classes-length (suc i) all rings)
 
-each-append : {X : Type 0} (P : X → Type 0) (xs ys : List X) → Each P xs → Each P ys → Each P (xs ++ ys)
+pub each-append : {X : Type 0} (P : X → Type 0) (xs ys : List X) → Each P xs → Each P ys → Each P (xs ++ ys)
 each-append P [] ys ps qs = qs
 each-append P (x ∷ xs) ys ps qs = (ps .0, each-append P xs ys (ps .1) qs)
 

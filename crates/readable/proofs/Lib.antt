@@ -1,5 +1,5 @@
--- Laws of ring sets against number 9 and their text, with no code. Laws.antt, Text.antt, Pieces.antt, Past.antt, Counts.antt and
--- Standing.antt have those that other crates cite.
+-- Laws of ring sets against number 9 and their text, with no code. Laws.antt, Text.antt, Pieces.antt, Viewer.antt, Past.antt, Counts.antt
+-- and Standing.antt have those that other crates cite.
 pub mod Behind
 pub mod Packed
 pub mod Orders
@@ -9,6 +9,7 @@ pub mod Passing
 pub mod Laws
 pub mod Text
 pub mod Pieces
+pub mod Viewer
 pub mod Past
 pub mod Counts
 pub mod Standing

@@ -3,14 +3,14 @@
 use mathlib.Core.Path.{_≡_, refl, sym, _∙_, ap, ap₂}
 use mathlib.Core.Bool.{Bool, true, false, cond}
 use mathlib.Core.List.{List, [], _∷_, _++_, map, map-append}
-use Prim.Native.Nat.{ℕ, zero, suc, _+_, _*_, _≤_, _<_}
+use Prim.Native.Nat.{ℕ, zero, suc, _+_, _*_, _<_}
 use native.Mathlib.Nat.{add-zero}
 use native.Mathlib.Omega.{arith}
-use lib.ListN.{length, getD, take, drop, length-drop, List·getD-append}
+use lib.ListN.{getD, drop, length-drop, List·getD-append}
 use lib.Seq.{take-append-le, drop-append-le}
 use Rattle.scope.specs.Limits.{recordStride}
 use Rattle.scope.specs.Area.{points}
-use Rattle.scope.specs.GeoJson.{firstAt, countAt, classAt, ownerAt, wordsIn, ringWordsAt, ringAt, isPolygon, isHole, joined, bracketed, ringText, numbersOf, polygonNumbers, isHoleOf, holeNumbers, polygonText, opening, geoJsonText}
+use Rattle.scope.specs.GeoJson.{firstAt, countAt, classAt, ownerAt, wordsIn, ringWordsAt, ringAt, isPolygon, isHole, joined, bracketed, ringText, writtenAt, numbersOf, polygonNumbers, isHoleOf, holeNumbers, polygonText, opening, geoJsonText}
 use Rattle.ringset.proofs.Laws.{Sound}
 
 -- ---- numbers below n
@@ -74,15 +74,19 @@ module _ (ps directory : List ℕ) (rings : ℕ) (set : Sound ps directory rings
         let within = set .at k h .within in
         rw (first-same, count-same, drop-append-le (2 * firstAt directory k) ps pp (omega arith)) (ap points (take-append-le (2 * countAt directory k) (drop (2 * firstAt directory k) ps) pp (simp length-drop (omega arith))))
 
-  holes-same : (k : ℕ) → map (λ r. ringText (ringAt (ps ++ pp) (directory ++ pd) r)) (holeNumbers (directory ++ pd) rings k) ≡ map (λ r. ringText (ringAt ps directory r)) (holeNumbers directory rings k)
+    written-same : writtenAt (ps ++ pp) (directory ++ pd) k ≡ writtenAt ps directory k
+    unfolding writtenAt
+    written-same = rw (class-same, ring-same)
+
+  holes-same : (k : ℕ) → map (λ r. ringText (writtenAt (ps ++ pp) (directory ++ pd) r)) (holeNumbers (directory ++ pd) rings k) ≡ map (λ r. ringText (writtenAt ps directory r)) (holeNumbers directory rings k)
   unfolding holeNumbers
   holes-same k =
-      told-same (isHoleOf (directory ++ pd) k) (isHoleOf directory k) (λ r. ringText (ringAt (ps ++ pp) (directory ++ pd) r)) (λ r. ringText (ringAt ps directory r)) rings
-      (λ r h. hole-same r h k) (λ r h. ap ringText (ring-same r h))
+      told-same (isHoleOf (directory ++ pd) k) (isHoleOf directory k) (λ r. ringText (writtenAt (ps ++ pp) (directory ++ pd) r)) (λ r. ringText (writtenAt ps directory r)) rings
+      (λ r h. hole-same r h k) (λ r h. ap ringText (written-same r h))
 
   polygon-text-same : (k : ℕ) → k < rings → polygonText (ps ++ pp) (directory ++ pd) rings k ≡ polygonText ps directory rings k
   unfolding polygonText
-  polygon-text-same k h = ap (λ (ts : List (List ℕ)). bracketed (joined ts)) (ap₂ _∷_ (ap ringText (ring-same k h)) (holes-same k))
+  polygon-text-same k h = ap (λ (ts : List (List ℕ)). bracketed (joined ts)) (ap₂ _∷_ (ap ringText (written-same k h)) (holes-same k))
 
   pub text-without-what-is-behind : geoJsonText (ps ++ pp) (directory ++ pd) rings ≡ geoJsonText ps directory rings
   unfolding geoJsonText polygonNumbers

@@ -1,12 +1,12 @@
 -- The text of a checked set has each ring once: behind its opening it is brackets, commas and texts of rings, and a closing brace, and among these rings each
 -- polygon stands once, each hole that is not dropped once, and nothing else. The pieces are made as document 01 makes the text, and what they spell and which
 -- rings they have is read off them. Other crates cite `each-ring-once`. Assumes nothing.
-use mathlib.Core.Path.{_≡_, refl, sym, _∙_, ap, ap₂}
+use mathlib.Core.Path.{_≡_, refl, sym, _∙_, ap}
 use mathlib.Core.Bool.{false}
 use mathlib.Core.List.{List, [], _∷_, _++_, map, flatMap, append-assoc, append-nil}
 use Prim.Native.Nat.{ℕ, _≤_}
 use Rattle.scope.specs.Limits.{noOwner}
-use Rattle.scope.specs.GeoJson.{ringAt, ringSetRefused, joined, bracketed, ringText, polygonNumbers, holeNumbers, polygonText, opening, geoJsonText}
+use Rattle.scope.specs.GeoJson.{writtenAt, ringSetRefused, joined, bracketed, ringText, polygonNumbers, holeNumbers, polygonText, opening, geoJsonText}
 use Rattle.readable.proofs.Text.{textRings, Told, told}
 
 -- a square bracket, a comma, or a ring by its record number
@@ -18,7 +18,7 @@ unfoldable pub pieceText : List ℕ → List ℕ → Piece → List ℕ
 pieceText ps directory bracket = 91 ∷ []
 pieceText ps directory endBracket = 93 ∷ []
 pieceText ps directory comma = 44 ∷ []
-pieceText ps directory (ring k) = ringText (ringAt ps directory k)
+pieceText ps directory (ring k) = ringText (writtenAt ps directory k)
 
 -- what pieces spell, one after the other
 unfoldable pub spelled : List ℕ → List ℕ → List Piece → List ℕ
@@ -49,7 +49,7 @@ module _ {X Y : Type 0} (f : X → List Y) where
   flat-append [] ys = refl
   flat-append (x ∷ xs) ys = rw (flat-append xs ys, append-assoc)
 
-map-map : {X Y Z : Type 0} (h : Y → Z) (f : X → Y) (g : X → Z) → ((x : X) → h (f x) ≡ g x) → (xs : List X) → map h (map f xs) ≡ map g xs
+pub map-map : {X Y Z : Type 0} (h : Y → Z) (f : X → Y) (g : X → Z) → ((x : X) → h (f x) ≡ g x) → (xs : List X) → map h (map f xs) ≡ map g xs
 map-map h f g same [] = refl
 map-map h f g same (x ∷ xs) = rw (same x, map-map h f g same xs)
 
@@ -110,10 +110,10 @@ module _ (directory : List ℕ) (rings : ℕ) where
       spelled-brackets ps directory (commas (map (λ r. ring r ∷ []) (k ∷ holeNumbers directory rings k)))
       ∙ ap bracketed
       (spelled-commas ps directory (map (λ r. ring r ∷ []) (k ∷ holeNumbers directory rings k))
-      ∙ ap joined (map-map (spelled ps directory) (λ r. ring r ∷ []) (λ r. ringText (ringAt ps directory r)) (λ r. one r) (k ∷ holeNumbers directory rings k)))
+      ∙ ap joined (map-map (spelled ps directory) (λ r. ring r ∷ []) (λ r. ringText (writtenAt ps directory r)) (λ r. one r) (k ∷ holeNumbers directory rings k)))
     where
-      one : (r : ℕ) → spelled ps directory (ring r ∷ []) ≡ ringText (ringAt ps directory r)
-      one r = unfold spelled flatMap pieceText in append-nil (ringText (ringAt ps directory r))
+      one : (r : ℕ) → spelled ps directory (ring r ∷ []) ≡ ringText (writtenAt ps directory r)
+      one r = unfold spelled flatMap pieceText in append-nil (ringText (writtenAt ps directory r))
 
   text-spelled : (ps : List ℕ) → geoJsonText ps directory rings ≡ opening ++ (spelled ps directory textPieces ++ (125 ∷ []))
   unfolding textPieces geoJsonText

@@ -22,7 +22,7 @@ use Rattle.ringrecord.specs.declared.Fate.{Fate}
 use Rattle.ringrecord.specs.declared.Fate.the-variants as fate-is
 use Rattle.ringrecord.specs.declared.RingRecord.{RingRecord}
 use Rattle.ringrecord.specs.Records.{fateOf, wordsOf, directoryFrom, directoryOf, fateFrom, recordFrom, recordsFrom}
-use Rattle.ringrecord.proofs.Areas.{low-fits, high-fits, area-comes-back, area-words-come-back}
+use Rattle.laws.proofs.Complement.{low-fits, high-fits, area-comes-back, area-words-come-back}
 
 -- ---- lengths
 

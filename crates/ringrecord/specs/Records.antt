@@ -1,11 +1,10 @@
 -- A directory as records, each holding its fate and its area, and as words: from the one to the other and back. Assumes nothing.
-use Prim.Native.Nat.{ℕ, suc, _+_, _*_, _-_, _^_}
+use Prim.Native.Nat.{ℕ, suc}
 use mathlib.Core.Bool.{cond}
 use mathlib.Core.List.{List, [], _∷_, _++_}
-use lib.Dec.{ltb, eqb}
-use lib.IntN.{ℤ, pos, negsuc}
+use lib.Dec.{eqb}
 use Rattle.scope.specs.Limits.{noOwner}
-use Rattle.scope.specs.Area.{areaWords}
+use Rattle.scope.specs.Area.{areaWords, areaFrom}
 use Rattle.scope.specs.Contour as Contour
 use Rattle.scope.specs.Contour.{classWord, ownerWord}
 use Rattle.scope.specs.GeoJson.{firstAt, countAt, classAt, ownerAt, areaLowAt, areaHighAt}
@@ -39,14 +38,6 @@ directoryOf records = directoryFrom 0 records
 -- the fate that class and owner words stand for
 unfoldable pub fateFrom : ℕ → ℕ → Fate
 fateFrom class owner = cond (eqb class 0) fate-is.Polygon (cond (eqb class 1) (cond (eqb owner noOwner) fate-is.Dropped (fate-is.Hole owner)) fate-is.Line)
-
--- the whole number that is this one in two's complement, in 64 bits
-unfoldable pub wholeFrom : ℕ → ℤ
-wholeFrom n = cond (ltb n (2 ^ 63)) (pos n) (negsuc (2 ^ 64 - 1 - n))
-
--- the area that two words stand for, low word first
-unfoldable pub areaFrom : ℕ → ℕ → ℤ
-areaFrom low high = wholeFrom (low + 2 ^ 32 * high)
 
 unfoldable pub recordFrom : ℕ → ℕ → ℕ → ℕ → ℕ → ℕ → RingRecord
 recordFrom first count class owner low high = record { first = first; count = count; fate = fateFrom class owner; area = areaFrom low high }

@@ -14,7 +14,8 @@ ghost use lib.Seq.{sets};
 ghost use Rattle.scope.specs.Area.{twosComplement};
 ghost use Rattle.scope.specs.Contour.{classWord, ownerWord};
 ghost use Rattle.scope.specs.Room.{directoryWords};
-ghost use Rattle.ringrecord.specs.Records.{fateOf, wordsOf, fateFrom, areaFrom, recordFrom, recordIn};
+ghost use Rattle.scope.specs.Area.{areaFrom};
+ghost use Rattle.ringrecord.specs.Records.{fateOf, wordsOf, fateFrom, recordFrom, recordIn};
 ghost use Rattle.ringrecord.specs.Copies.{roomFor, copiedRings, recordsAfter, wordsAfter};
 
 // What became of a ring.

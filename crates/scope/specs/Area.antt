@@ -1,6 +1,6 @@
 -- The area of a ring, the two words that it is in a record, the points that words hold, and what number 11 refuses of a ring's words. Assumes nothing.
-use Prim.Native.Nat.{ℕ, zero, suc, _-_, _*_, _/_, _%_, _^_}
-use mathlib.Core.Bool.{Bool, true, false, _||_}
+use Prim.Native.Nat.{ℕ, _+_, _-_, _*_, _/_, _%_, _^_}
+use mathlib.Core.Bool.{Bool, true, false, cond, _||_}
 use mathlib.Core.List.{List, [], _∷_}
 use lib.Dec.{ltb, eqb}
 use lib.IntN.{ℤ, pos, negsuc, _+ℤ_, _-ℤ_}
@@ -38,6 +38,10 @@ unfoldable pub positive : ℤ → Bool
 positive (pos n) = ltb 0 n
 positive (negsuc n) = false
 
+unfoldable pub negative : ℤ → Bool
+negative (pos n) = false
+negative (negsuc n) = true
+
 -- a whole number in two's complement, in 64 bits: one below 0 is all ones less the number that is one short of its size
 unfoldable pub twosComplement : ℤ → ℕ
 twosComplement (pos n) = n % 2 ^ 64
@@ -52,6 +56,13 @@ highWord a = twosComplement a / 2 ^ 32
 
 unfoldable pub areaWords : ℤ → List ℕ
 areaWords a = lowWord a ∷ highWord a ∷ []
+
+-- the whole number that is this one in two's complement, in 64 bits, and the area that a record's two words stand for
+unfoldable pub wholeFrom : ℕ → ℤ
+wholeFrom n = cond (ltb n (2 ^ 63)) (pos n) (negsuc (2 ^ 64 - 1 - n))
+
+unfoldable pub areaFrom : ℕ → ℕ → ℤ
+areaFrom low high = wholeFrom (low + 2 ^ 32 * high)
 
 unfoldable pub anyAbove : ℕ → List ℕ → Bool
 anyAbove limit [] = false

@@ -1,13 +1,14 @@
 -- GeoJSON: which ring sets number 9 refuses, and the text of one that it does not refuse, as bytes. Assumes nothing.
 use Prim.Native.Nat.{ℕ, zero, suc, _+_, _*_, _/_, _%_}
 use mathlib.Core.Bool.{Bool, true, false, cond, not, _&&_, _||_}
-use mathlib.Core.List.{List, [], _∷_, _++_, map}
+use mathlib.Core.List.{List, [], _∷_, _++_, map, reverse}
 use lib.Dec.{ltb, eqb}
+use lib.IntN.{ℤ}
 use lib.ListN.{length, getD, take, drop}
 use Rattle.scope.specs.Limits.{coordinateLimit, pointLimit, recordStride, noOwner}
 use Rattle.scope.specs.Cells.{Point, samePoint}
 use Rattle.scope.specs.Stitching.{Line}
-use Rattle.scope.specs.Area.{points, lastOf, area, lowWord, highWord, anyAbove}
+use Rattle.scope.specs.Area.{points, lastOf, area, positive, negative, lowWord, highWord, anyAbove}
 use Rattle.scope.specs.Room.{directoryWords}
 
 -- ---- a ring set: points as words, and a directory of records
@@ -136,9 +137,20 @@ bracketed t = 91 ∷ t ++ (93 ∷ [])
 unfoldable pub pointText : Point → List ℕ
 pointText p = bracketed (joined (coordinateText (p .x) ∷ coordinateText (p .y) ∷ []))
 
--- a ring in stored order
+-- a line of points
 unfoldable pub ringText : Line → List ℕ
-ringText ring = bracketed (joined (map pointText ring))
+ringText line = bracketed (joined (map pointText line))
+
+-- document 02's order of a ring's points: an exterior of positive area is written backwards, and a hole of negative area
+unfoldable pub backwards : ℕ → ℤ → Bool
+backwards class a = cond (eqb class 0) (positive a) (negative a)
+
+-- a ring as it is written: backwards or as stored, and from the same first point either way, since a ring ends in its first point
+unfoldable pub writtenOrder : Bool → Line → Line
+writtenOrder back ring = cond back (reverse ring) ring
+
+unfoldable pub writtenAt : List ℕ → List ℕ → ℕ → Line
+writtenAt ps directory k = writtenOrder (backwards (classAt directory k) (area (ringAt ps directory k))) (ringAt ps directory k)
 
 -- the numbers below n that pass a test, lowest first
 unfoldable pub numbersOf : (ℕ → Bool) → ℕ → List ℕ
@@ -157,7 +169,7 @@ holeNumbers directory rings owner = numbersOf (isHoleOf directory owner) rings
 
 -- a polygon, followed by its holes
 unfoldable pub polygonText : List ℕ → List ℕ → ℕ → ℕ → List ℕ
-polygonText ps directory rings k = bracketed (joined (map (λ r. ringText (ringAt ps directory r)) (k ∷ holeNumbers directory rings k)))
+polygonText ps directory rings k = bracketed (joined (map (λ r. ringText (writtenAt ps directory r)) (k ∷ holeNumbers directory rings k)))
 
 -- {"type":"MultiPolygon","coordinates":
 unfoldable pub opening : List ℕ

@@ -13,5 +13,6 @@ pub mod Smoothing
 pub mod Room
 pub mod Tables
 pub mod GeoJson
+pub mod Winding
 pub mod Program
 pub mod Dozen

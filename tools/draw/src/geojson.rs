@@ -1,5 +1,5 @@
 //! Figures as GeoJSON, written as they are drawn: no text is held but that of one figure in grid units, which
-//! the library writes. On a map, polygons run as RFC 7946 asks: exteriors counterclockwise, holes clockwise.
+//! the library writes. Polygons run as RFC 7946 asks: exteriors counterclockwise, holes clockwise, y taken upward.
 
 use crate::failure::Failure;
 use crate::levels::Slice;
@@ -59,9 +59,9 @@ impl Writer<'_> {
                 let text = shapes::polygons_text(self.terrain, slice, self.figure)?;
                 out.write_all(text.as_bytes())?;
             }
-            (_, Some(_)) => {
+            (_, Some(at)) => {
                 let regions = shapes::polygons(self.terrain, slice, self.figure)?;
-                write_polygons(out, &regions, self.terrain.placement)?;
+                write_polygons(out, &regions, at)?;
             }
         }
         Ok(())
@@ -76,14 +76,14 @@ impl Writer<'_> {
             write_lines(out, &lines)?;
         } else {
             let regions = shapes::polygons(self.terrain, slice, self.figure)?;
-            let Placement { x_step, y_step, .. } = self.terrain.placement.unwrap_or_default();
-            let area = number(shapes::area(&regions) * (x_step * y_step).abs());
+            let at = self.terrain.placement.unwrap_or_default();
+            let area = number(shapes::area(&regions) * (at.x_step * at.y_step).abs());
             let polygons = regions.polygons.len();
             write!(
                 out,
                 ",\"area\":{area},\"polygons\":{polygons}}},\"geometry\":"
             )?;
-            write_polygons(out, &regions, self.terrain.placement)?;
+            write_polygons(out, &regions, at)?;
         }
         Ok(out.write_all(b"}")?)
     }
@@ -161,44 +161,39 @@ fn write_lines(out: &mut dyn Write, lines: &[Line]) -> io::Result<()> {
 }
 
 /// Each polygon's ring, and behind it those of its holes.
-fn write_polygons(
-    out: &mut dyn Write,
-    regions: &Regions,
-    placement: Option<Placement>,
-) -> io::Result<()> {
+fn write_polygons(out: &mut dyn Write, regions: &Regions, at: Placement) -> io::Result<()> {
     out.write_all(b"{\"type\":\"MultiPolygon\",\"coordinates\":[")?;
     for (k, polygon) in regions.polygons.iter().enumerate() {
         write_comma(out, k)?;
         out.write_all(b"[")?;
-        write_ring(out, &polygon.exterior, placement, true)?;
+        write_ring(out, &polygon.exterior, at, true)?;
         for interior in &polygon.interiors {
             out.write_all(b",")?;
-            write_ring(out, interior, placement, false)?;
+            write_ring(out, interior, at, false)?;
         }
         out.write_all(b"]")?;
     }
     out.write_all(b"]}")
 }
 
-/// A ring in grid units as it is; on the map so that it runs as it should there.
+/// A ring, from its first point on, so that it runs as it should; one that encloses nothing as it stands.
 fn write_ring(
     out: &mut dyn Write,
     ring: &Ring,
-    placement: Option<Placement>,
+    at: Placement,
     counterclockwise: bool,
 ) -> io::Result<()> {
-    let points = halves(&ring.points);
-    let placement = match placement {
-        None => return write_points(out, points),
-        Some(placement) => placement,
-    };
+    let points = halves(&ring.points).map(|point| placed(at, point));
     // A ring of area above 0 runs clockwise where y grows upward, and a map that is turned over turns it over.
-    let turned = placement.x_step * placement.y_step < 0.0;
-    let runs_so = (ring.area < 0) != turned;
-    let points = points.map(|point| placed(placement, point));
-    match runs_so == counterclockwise {
-        true => write_points(out, points),
-        false => write_points(out, points.rev()),
+    let turned = (at.x_step < 0.0) != (at.y_step < 0.0);
+    let area = if turned { -ring.area } else { ring.area };
+    let backwards = match counterclockwise {
+        true => area > 0,
+        false => area < 0,
+    };
+    match backwards {
+        true => write_points(out, points.rev()),
+        false => write_points(out, points),
     }
 }
 

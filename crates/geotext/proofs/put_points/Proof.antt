@@ -1,67 +1,80 @@
--- `geotext::put_points` meets its contract. The loop's invariant is `PointsLeft`: the points not yet written are left. The measure is their number.
--- Assumes nothing.
+-- `geotext::put_points` meets its contract. The loop's invariant is `PointsLeft`: so many of the ring's points are left, in the order in which they are written.
+-- The measure is their number. Assumes nothing.
 use mathlib.Core.List.{_∷_}
-use Prim.Native.Nat.{_+_, _-_, _≤_}
+use Prim.Native.Nat.{_+_, _-_, _*_, _≤_}
 use native.Mathlib.Omega.{arith}
-use lib.ListN.{length}
+use lib.ListN.{length, drop}
 use Rattle.scope.specs.Area.{points}
-use Rattle.scope.specs.GeoJson.{wordsIn}
+use Rattle.scope.specs.GeoJson.{wordsIn, writtenOrder}
 use Rattle.geotext.specs.Pieces.{pointTexts}
 use Rattle.geotext.proofs.Runs.{Left, left-as-long, left-ends, left-stored}
-use Rattle.geotext.proofs.Rings.{pointsFrom, PointsLeft, points-begin, points-end, point-room, points-comma, points-next, points-last}
+use Rattle.geotext.proofs.Rings.{PointsLeft, next-within, points-begin, points-end, point-room, points-comma, points-next, points-last}
 use Rattle.geotext.proofs.put_points.Statement.{statement}
 use Rattle.geotext.proofs.put_points.Tie as tie
 
 abbrev Inv-loop : tie.InvT-loop
-Inv-loop points first count text₀ at place₀ i₀ left₀ text place i left = PointsLeft points first count text₀ at text place i left
+Inv-loop points first count back text₀ at place₀ left₀ text place left = PointsLeft points first count back text₀ at text place left
 
 abbrev μ-loop : tie.MeasureT-loop
-μ-loop points first count text₀ at place₀ i₀ left₀ text place i left = left
+μ-loop points first count back text₀ at place₀ left₀ text place left = left
 
--- in a turn two words are left
-words-left : (c : tie.In-loop Inv-loop μ-loop) → let turn = c .before in turn .loop .i + 2 ≤ length (turn .before .before .before .args .points .now)
-words-left c = let turn = c .before in omega (arith, turn .loop .inv .along, c .loop-test .taken, turn .before .before .before .pre .0)
+-- the next point's words are among the points
+words-there : (c : tie.After-next-of Inv-loop μ-loop) → let start = c .before .before .before .before .before in
+    2 * (start .args .first + c .next-of .result) + 2 ≤ length (start .args .points .now)
+words-there c =
+    let turn = c .before in
+    let start = turn .before .before .before .before in
+    omega (arith, c .next-of .ensures, next-within (start .args .count) (turn .before .loop .left) (start .args .back) (turn .loop-test .taken) (turn .before .loop .inv .within), start .pre .0)
 
 -- where another point follows, the comma is left
 at-comma : (c : tie.Then1 Inv-loop μ-loop) → let called = c .before .before .before in
-    let start = called .before .before .before .before .before .before .before .before in
-    let next = called .before .before .before .before .before .loop in
-    Left (start .args .text .now) (start .args .at) (pointTexts (points (wordsIn (start .args .points .now) (start .args .first) (start .args .count))))
-    (called .put-point .last .0) (called .put-point .result) (44 ∷ pointTexts (pointsFrom (start .args .points .now) (next .i + 2) (next .left - 1)))
+    let turn = called .before .before .before .before .before in
+    let start = turn .before .before .before .before in
+    let ring = writtenOrder (start .args .back) (points (wordsIn (start .args .points .now) (start .args .first) (start .args .count))) in
+    Left (start .args .text .now) (start .args .at) (pointTexts ring) (called .put-point .last .0) (called .put-point .result)
+    (44 ∷ pointTexts (drop (start .args .count - (turn .before .loop .left - 1)) ring))
 at-comma c =
     let called = c .before .before .before in
-    let turn = called .before .before .before .before in
-    points-comma (turn .before .before .before .before .pre .0) (turn .before .loop .inv) (turn .loop-test .taken)
+    let next = called .before .before .before .before in
+    let turn = next .before in
+    points-comma (turn .before .before .before .before .pre .0) (turn .before .loop .inv) (turn .loop-test .taken) (next .next-of .ensures)
     (called .put-point .ensures .0) (called .put-point .ensures .1) (c .if1 .taken)
-
-mul-i : tie.Need-mul-i Inv-loop μ-loop
-mul-i c = omega arith
 
 loop-holds : tie.Need-loop-holds Inv-loop μ-loop
 loop-holds c = points-begin (c .before .before .pre .1)
 
+next-of-requires : tie.Need-next-of-requires Inv-loop μ-loop
+next-of-requires c κs = (c .loop-test .taken, c .before .loop .inv .within)
+
+cast-i : tie.Need-cast-i Inv-loop μ-loop
+cast-i c = omega arith
+
+add-i : tie.Need-add-i Inv-loop μ-loop
+add-i c = omega (arith, words-there c)
+
+mul-i : tie.Need-mul-i Inv-loop μ-loop
+mul-i c = omega (arith, words-there c)
+
 mul-put-point : tie.Need-mul-put-point Inv-loop μ-loop
-mul-put-point c = omega (arith, words-left (c .before))
+mul-put-point c = omega (arith, words-there (c .before))
 
 shared-slice-read-put-point : tie.Need-shared-slice-read-put-point Inv-loop μ-loop
-shared-slice-read-put-point c = omega (arith, words-left (c .before .before))
+shared-slice-read-put-point c = omega (arith, words-there (c .before .before))
 
 add-put-point : tie.Need-add-put-point Inv-loop μ-loop
-add-put-point c = omega (arith, words-left (c .before .before))
+add-put-point c = omega (arith, words-there (c .before .before))
 
 mul-put-point-2 : tie.Need-mul-put-point-2 Inv-loop μ-loop
-mul-put-point-2 c = omega (arith, words-left (c .before .before))
+mul-put-point-2 c = omega (arith, words-there (c .before .before))
 
 shared-slice-read-put-point-2 : tie.Need-shared-slice-read-put-point-2 Inv-loop μ-loop
-shared-slice-read-put-point-2 c = omega (arith, words-left (c .before .before .before))
+shared-slice-read-put-point-2 c = omega (arith, words-there (c .before .before .before))
 
 put-point-requires : tie.Need-put-point-requires Inv-loop μ-loop
 put-point-requires c κs =
-    let turn = c .before .before .before in
-    point-room (turn .before .before .before .before .pre .0) (turn .before .loop .inv) (turn .loop-test .taken)
-
-add-i : tie.Need-add-i Inv-loop μ-loop
-add-i c = omega (arith, words-left (c .before .before .before .before .before .before))
+    let next = c .before .before .before in
+    let turn = next .before in
+    point-room (turn .before .before .before .before .pre .0) (turn .before .loop .inv) (turn .loop-test .taken) (next .next-of .ensures)
 
 sub-left : tie.Need-sub-left Inv-loop μ-loop
 sub-left c = omega arith
@@ -78,8 +91,9 @@ loop-less c = omega arith
 loop-again : tie.Need-loop-again Inv-loop μ-loop
 loop-again c =
     let called = c .before .before .before in
-    let turn = called .before .before .before .before in
-    points-next (turn .before .before .before .before .pre .0) (turn .before .loop .inv) (turn .loop-test .taken)
+    let next = called .before .before .before .before in
+    let turn = next .before in
+    points-next (turn .before .before .before .before .pre .0) (turn .before .loop .inv) (turn .loop-test .taken) (next .next-of .ensures)
     (called .put-point .ensures .0) (called .put-point .ensures .1) (c .if1 .taken)
 
 loop-less-2 : tie.Need-loop-less-2 Inv-loop μ-loop
@@ -88,15 +102,18 @@ loop-less-2 c = omega arith
 loop-again-2 : tie.Need-loop-again-2 Inv-loop μ-loop
 loop-again-2 c =
     let called = c .before .before .before in
-    let turn = called .before .before .before .before in
-    points-last (turn .before .before .before .before .pre .0) (turn .before .loop .inv) (turn .loop-test .taken)
+    let next = called .before .before .before .before in
+    let turn = next .before in
+    points-last (turn .before .before .before .before .pre .0) (turn .before .loop .inv) (turn .loop-test .taken) (next .next-of .ensures)
     (called .put-point .ensures .0) (called .put-point .ensures .1) (c .if1 .left)
 
 same-length : tie.Need-same-length Inv-loop μ-loop
 same-length c = left-as-long (c .before .loop .inv .unwritten)
 
 returns : tie.Need-returns Inv-loop μ-loop
-returns c = let s = points-end (c .before .loop .inv) (c .loop-test .left) in (left-ends s, left-stored s)
+returns c =
+    let s = points-end (c .before .before .before .before .pre .0) (c .before .loop .inv) (c .loop-test .left) in
+    (left-ends s, left-stored s)
 
 pub put-points-spec : {M : Type 1} → statement M
 put-points-spec =
@@ -104,15 +121,17 @@ put-points-spec =
     (tie.spec
     Inv-loop
     μ-loop
-    mul-i
     loop-holds
+    next-of-requires
+    cast-i
+    add-i
+    mul-i
     mul-put-point
     shared-slice-read-put-point
     add-put-point
     mul-put-point-2
     shared-slice-read-put-point-2
     put-point-requires
-    add-i
     sub-left
     slice-write-text
     add-place

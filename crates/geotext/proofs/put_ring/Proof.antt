@@ -7,7 +7,7 @@ use lib.ListN.{set}
 use borrow.Author.Needs.{needs}
 use Rattle.scope.specs.Stitching.{Line}
 use Rattle.scope.specs.Area.{points}
-use Rattle.scope.specs.GeoJson.{wordsIn, ringText}
+use Rattle.scope.specs.GeoJson.{wordsIn, ringText, writtenOrder}
 use Rattle.geotext.specs.Pieces.{pointTexts}
 use Rattle.geotext.proofs.Runs.{Left, left-begin, left-as-long, left-room, left-next, left-ends, left-stored}
 use Rattle.geotext.proofs.Rings.{ring-spelled}
@@ -15,25 +15,25 @@ use Rattle.geotext.proofs.put_ring.Statement.{statement}
 use Rattle.geotext.proofs.put_ring.Tie as tie
 
 abbrev ring : tie.Start → Line
-ring start = points (wordsIn (start .args .points .now) (start .args .first) (start .args .count))
+ring start = writtenOrder (start .args .back) (points (wordsIn (start .args .points .now) (start .args .first) (start .args .count)))
 
 abbrev Writing : tie.Start → List ℕ → ℕ → List ℕ → Type 0
 Writing start = Left (start .args .text .now) (start .args .at) (ringText (ring start))
 
 at-start : (c : tie.Start) → Writing c (c .args .text .now) (c .args .at) (91 ∷ (pointTexts (ring c) ++ (93 ∷ [])))
-at-start c = left-begin (ring-spelled (ring c)) (c .pre .1 .1)
+at-start c = left-begin (ring-spelled (ring c)) (c .pre .1)
 
 at-points : (c : tie.Start) → Writing c (set (c .args .text .now) (c .args .at) 91) (c .args .at + 1) (pointTexts (ring c) ++ (93 ∷ []))
 at-points c = left-next (91 ∷ []) (pointTexts (ring c) ++ (93 ∷ [])) (at-start c) refl refl
 
 at-bracket : (c : tie.After-put-points) → let start = c .before .before .before .before in
-    Writing start (c .put-points .last .1 .1 .1 .0) (c .put-points .result) (93 ∷ [])
+    Writing start (c .put-points .last .1 .1 .1 .1 .0) (c .put-points .result) (93 ∷ [])
 at-bracket c =
     let start = c .before .before .before .before in
     left-next (pointTexts (ring start)) (93 ∷ []) (at-points start) (c .put-points .ensures .0) (c .put-points .ensures .1)
 
 at-end : (c : tie.After-put-points) → let start = c .before .before .before .before in
-    Writing start (set (c .put-points .last .1 .1 .1 .0) (c .put-points .result) 93) (c .put-points .result + 1) []
+    Writing start (set (c .put-points .last .1 .1 .1 .1 .0) (c .put-points .result) 93) (c .put-points .result + 1) []
 at-end c = left-next (93 ∷ []) [] (at-bracket c) refl refl
 
 slice-write-text : tie.Need-slice-write-text

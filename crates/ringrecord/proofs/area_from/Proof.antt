@@ -4,7 +4,7 @@ use Prim.Native.Nat.{_+_, _*_, _^_}
 use native.Mathlib.Omega.{arith}
 use mir.Syntax.{w64}
 use mir.ValLaws.{toZ-ofZ}
-use Rattle.ringrecord.specs.Records.{wholeFrom, areaFrom}
+use Rattle.scope.specs.Area.{wholeFrom, areaFrom}
 use Rattle.ringrecord.proofs.Areas.{below-half, past-half, past-half-fits}
 use Rattle.ringrecord.proofs.area_from.Statement.{statement}
 use Rattle.ringrecord.proofs.area_from.Tie as tie
