@@ -1,5 +1,5 @@
--- The text of what contours and isobands leave has each ring once, and its rings run as map viewers want them: the set passes number 9, and so these are laws of
--- `readable`. Assumes nothing.
+-- The text of what contours and isobands leave has each ring once, and its rings run as map viewers want them: the set passes number 9, and so these are laws
+-- of `readable`. Assumes nothing.
 use mathlib.Core.Path.{_≡_}
 use mathlib.Core.List.{List}
 use Prim.Native.Nat.{ℕ}

@@ -59,6 +59,11 @@ unfolding joined total
 joined-length t [] = omega arith
 joined-length t (u ∷ ts) = simp length-append (omega (arith, joined-length u ts))
 
+pub joined-bytes : (ts : List (List ℕ)) → length (joined ts) ≡ total commaed ts - 1
+unfolding total joined
+joined-bytes [] = omega arith
+joined-bytes (t ∷ ts) = joined-length t ts ∙ omega arith
+
 pub bracketed-length : (t : List ℕ) → length (bracketed t) ≡ length t + 2
 unfolding bracketed
 bracketed-length t = simp length-append (omega arith)
@@ -91,17 +96,21 @@ pub empty-ring-length : (ps : List ℕ) (first : ℕ) → length (ringText (poin
 unfolding wordsIn ringText points bracketed joined
 empty-ring-length ps first = refl
 
+pub ring-length : (ws : List ℕ) (n : ℕ) → length ws ≡ 2 * n → 0 < n → length (ringText (points ws)) ≡ total letters ws + 4 * n + 1
+unfolding points total ringText
+ring-length [] n h more = absurd (omega arith)
+ring-length (x ∷ []) n h more = absurd (omega arith)
+ring-length (x ∷ y ∷ ws) zero h more = absurd (omega arith)
+ring-length (x ∷ y ∷ ws) (suc n) h more =
+    bracketed-length (joined (map pointText (points (x ∷ y ∷ ws))))
+    ∙ omega (arith, joined-length (pointText (record { x = x; y = y })) (map pointText (points ws)), point-length x y, points-length ws n (omega arith))
+
 -- ---- a ring's text is as long backwards
 
 total-reversed : (ts : List (List ℕ)) → total commaed (reverse ts) ≡ total commaed ts
 unfolding total
 total-reversed [] = refl
 total-reversed (t ∷ ts) = rw (reverse-cons t ts) (omega (arith, total-append commaed (reverse ts) (t ∷ []), total-reversed ts))
-
-pub joined-bytes : (ts : List (List ℕ)) → length (joined ts) ≡ total commaed ts - 1
-unfolding total joined
-joined-bytes [] = omega arith
-joined-bytes (t ∷ ts) = joined-length t ts ∙ omega arith
 
 texts-reversed : (l : Line) → map pointText (reverse l) ≡ reverse (map pointText l)
 texts-reversed [] = refl
@@ -120,12 +129,3 @@ written-length true l =
       joined-bytes (map pointText l),
       total-reversed (map pointText l),
     ))
-
-pub ring-length : (ws : List ℕ) (n : ℕ) → length ws ≡ 2 * n → 0 < n → length (ringText (points ws)) ≡ total letters ws + 4 * n + 1
-unfolding points total ringText
-ring-length [] n h more = absurd (omega arith)
-ring-length (x ∷ []) n h more = absurd (omega arith)
-ring-length (x ∷ y ∷ ws) zero h more = absurd (omega arith)
-ring-length (x ∷ y ∷ ws) (suc n) h more =
-    bracketed-length (joined (map pointText (points (x ∷ y ∷ ws))))
-    ∙ omega (arith, joined-length (pointText (record { x = x; y = y })) (map pointText (points ws)), point-length x y, points-length ws n (omega arith))

@@ -91,23 +91,26 @@ getD-reverse (a ∷ l) k d h = rw (reverse-cons a l) (by (decLt k (length l)) (g
 -- ---- the walk that writes
 
 module _ (ps : List ℕ) (first count : ℕ) (back : Bool) where
-  -- the ring as it is written
+  -- the ring as it is stored, and as it is written
+  abbrev stored : Line
+  stored = points (wordsIn ps first count)
+
   abbrev ring : Line
-  ring = writtenOrder back (points (wordsIn ps first count))
+  ring = writtenOrder back stored
 
   module _ (enough : 2 * (first + count) ≤ length ps) where
+    stored-many : length stored ≡ count
+    stored-many = points-many (wordsIn ps first count) count (words-in-length ps first count enough)
+
     ring-many : length ring ≡ count
     unfolding writtenOrder
     ring-many = by back
       where
-        many : length (points (wordsIn ps first count)) ≡ count
-        many = points-many (wordsIn ps first count) count (words-in-length ps first count enough)
+        by : (b : Bool) → length (cond b (reverse stored) stored) ≡ count
+        by true = length-reverse stored ∙ stored-many
+        by false = stored-many
 
-        by : (b : Bool) → length (cond b (reverse (points (wordsIn ps first count))) (points (wordsIn ps first count))) ≡ count
-        by true = length-reverse (points (wordsIn ps first count)) ∙ many
-        by false = many
-
-    stored-point : (k : ℕ) → k < count → getD (points (wordsIn ps first count)) k nowhere ≡ pointIn ps (first + k)
+    stored-point : (k : ℕ) → k < count → getD stored k nowhere ≡ pointIn ps (first + k)
     unfolding wordsIn
     stored-point k h = point-of (wordsIn ps first count) k (omega (arith, words-in-length ps first count enough)) ∙ words
       where
@@ -121,16 +124,10 @@ module _ (ps : List ℕ) (first count : ℕ) (back : Bool) where
     unfolding writtenOrder nextOf
     written-point left more within = by back
       where
-        stored : Line
-        stored = points (wordsIn ps first count)
-
-        many : length stored ≡ count
-        many = points-many (wordsIn ps first count) count (words-in-length ps first count enough)
-
         by : (b : Bool) → getD (cond b (reverse stored) stored) (count - left) nowhere ≡ pointIn ps (first + cond b (left - 1) (count - left))
         by true =
-            let place : length stored - 1 - (count - left) ≡ left - 1 = omega (arith, many) in
-            getD-reverse stored (count - left) nowhere (omega (arith, many)) ∙ rw place (stored-point (left - 1) (omega arith))
+            let place : length stored - 1 - (count - left) ≡ left - 1 = omega (arith, stored-many) in
+            getD-reverse stored (count - left) nowhere (omega (arith, stored-many)) ∙ rw place (stored-point (left - 1) (omega arith))
         by false = stored-point (count - left) (omega arith)
 
     ring-next : (left n : ℕ) → 0 < left → left ≤ count → n ≡ nextOf count left back → drop (count - left) ring ≡ pointIn ps (first + n) ∷ drop (count - (left - 1)) ring

@@ -144,8 +144,8 @@ fn next_of(count: u32, left: u32, back: bool) -> u32
     if back { left - 1 } else { count - left }
 }
 
-// Writes the texts of `count` points with commas between them, those from the point of number `first` on, backwards or as stored, from byte `at` on, and answers
-// the number of the byte behind them.
+// Writes the texts of `count` points, those from the point of number `first` on, with commas between them, backwards or as stored, from byte `at` on, and
+// answers the number of the byte behind them.
 fn put_points(
     points: &[u16],
     first: u32,

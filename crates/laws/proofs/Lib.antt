@@ -1,5 +1,5 @@
--- Laws over document 01's definitions, with no tables and no code. Laws.antt states the five that other crates cite, Shared.antt says them of the pairs as demand 3
--- words them, and Bounds.antt how many segments there can be.
+-- Laws over document 01's definitions, with no tables and no code. Laws.antt states the five that other crates cite, Shared.antt says them of the pairs as
+-- demand 3 words them, and Bounds.antt how many segments there can be.
 pub mod Total
 pub mod Ends
 pub mod Outcome

@@ -1,5 +1,5 @@
--- Words behind a ring set do not matter: the text of a set that passes number 9 is the same, whatever stands behind its points and its records. Every record that
--- the text asks for is among those stated, and every range lies within the points. Assumes nothing.
+-- Words behind a ring set do not matter: the text of a set that passes number 9 is the same, whatever stands behind its points and its records. Every record
+-- that the text asks for is among those stated, and every range lies within the points. Assumes nothing.
 use mathlib.Core.Path.{_≡_, refl, sym, _∙_, ap, ap₂}
 use mathlib.Core.Bool.{Bool, true, false, cond}
 use mathlib.Core.List.{List, [], _∷_, _++_, map, map-append}

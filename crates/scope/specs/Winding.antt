@@ -1,5 +1,5 @@
--- Which way a ring runs, as a map viewer sees it: x to the right, y upward. RFC 7946 (3.1.6) wants exteriors counterclockwise and holes clockwise. This speaks of
--- the points of a line alone, so that what the writer promises does not rest on how it decides. Assumes nothing.
+-- Which way a ring runs, as a map viewer sees it: x to the right, y upward. RFC 7946 (3.1.6) wants exteriors counterclockwise and holes clockwise. This speaks
+-- of the points of a line alone, so that what the writer promises does not rest on how it decides. Assumes nothing.
 use mathlib.Core.Path.{_≡_}
 use mathlib.Core.Bool.{true}
 use mathlib.Core.List.{List, [], _∷_}

@@ -1,5 +1,5 @@
--- `geotext::put_points` meets its contract. The loop's invariant is `PointsLeft`: so many of the ring's points are left, in the order in which they are written.
--- The measure is their number. Assumes nothing.
+-- `geotext::put_points` meets its contract. The loop's invariant is `PointsLeft`: so many points are left, in the order in which they are written. The measure is
+-- their number. Assumes nothing.
 use mathlib.Core.List.{_∷_}
 use Prim.Native.Nat.{_+_, _-_, _*_, _≤_}
 use native.Mathlib.Omega.{arith}
