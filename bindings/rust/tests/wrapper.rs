@@ -5,7 +5,7 @@ mod terrains;
 
 use nigrulent::{
     area, check, contains, geojson, Fate, Level, Place, Placement, Point, Polygon, Record, Refusal,
-    Regions, Ring, Tables,
+    Regions, Ring, Tables, Terrain,
 };
 use terrains::{for_terrains, summed_area};
 
@@ -169,6 +169,16 @@ fn polygons_made_by_hand_need_no_area() {
     for points in [vec![], vec![[2, 2]], above] {
         assert_eq!(check(&with(points)), Err(Refusal::RingSet));
     }
+}
+
+/// Document 01's sixth example: the hole is (3,4)(2,3)(3,2)(4,3)(3,4), of area -4, so that document 02 has it backwards.
+#[test]
+fn a_hole_is_written_clockwise() -> Result<(), Refusal> {
+    let values = [1.0, 1.0, 1.0, 1.0, 0.0, 1.0, 1.0, 1.0, 1.0];
+    let text = Terrain::new(&values, 3, 3)?.contours_geojson(1.0)?;
+    let hole = ",[[1.5,2],[2,1.5],[1.5,1],[1,1.5],[1.5,2]]]]}";
+    assert!(text.ends_with(hole), "{text}");
+    Ok(())
 }
 
 /// Whichever way a ring runs in the vectors, the text has it as RFC 7946 asks.
