@@ -1,5 +1,7 @@
 // The area of a ring, and a ring against a ring, over doubled whole coordinates.
 // Words are X, Y, X, Y, and so on. Both functions answer on every input, and change nothing.
+#![tactic(auto)]
+
 ghost use Rattle.std.specs.Prelude.{◌≡◌, cond, ◌+◌, ◌*◌, ◌%◌, ◌^◌, ◌<◌, eqb, length};
 ghost use Rattle.scope.specs.Area.{faulty_words, area_refused};
 ghost use Rattle.scope.specs.Containment.{between, on_pair, flips};
@@ -10,7 +12,7 @@ use error::Refusal;
 use limits::{COORDINATE_LIMIT, POINT_LIMIT};
 
 // What `area` answers.
-#[derive(Drop)]
+#[derive(Clone, Copy)]
 pub enum AreaAnswer {
     // the signed area, the crate's undivided one times 4: above 0 is a polygon, otherwise a hole
     Area(i64),
@@ -19,7 +21,7 @@ pub enum AreaAnswer {
 }
 
 // What `contains` answers.
-#[derive(Drop)]
+#[derive(Clone, Copy)]
 pub enum Containment {
     // the first deciding vertex of the tested ring lies inside the outer ring
     Inside,
@@ -69,7 +71,7 @@ fn product(a: u16, b: u16) -> u64
 }
 
 // What one walk over a ring's words finds: whether a coordinate is above the limit, and two sums, whose difference is the area.
-#[derive(Drop)]
+#[derive(Clone, Copy)]
 pub struct RingSums {
     pub over: bool,
     pub gained: u64,

@@ -1,4 +1,6 @@
 // A band of two thresholds: which refusals come before any room is asked for, both reports, and the stitching passes and the packing that isobands is built on.
+#![tactic(auto)]
+
 ghost use Rattle.std.specs.Prelude.{◌≡◌, suc, max, ◌+◌, ◌^◌, ◌≤◌, ◌<◌, ltb, length};
 ghost use Rattle.scope.specs.Terrain.{above_at, terrain};
 ghost use Rattle.scope.specs.Room.{band_point_words};
@@ -19,14 +21,14 @@ use scope::{Level, Rule};
 use stitching::stitch;
 
 // Whether a band can be drawn: between which levels, or the refusal.
-#[derive(Drop)]
+#[derive(Clone, Copy)]
 pub enum BandFit {
     Fits(Level, Level),
     Refused(Refusal),
 }
 
 // What a band's stitching passes leave to be written: the counts of both sets, the larger peak, and the first link of the upper set's first ring.
-#[derive(Drop)]
+#[derive(Clone, Copy)]
 pub struct BandDrawing {
     pub lower_segments: u32,
     pub lower_rings: u32,
@@ -37,7 +39,7 @@ pub struct BandDrawing {
 }
 
 // A band's stitching passes that were done, or the refusal before them.
-#[derive(Drop)]
+#[derive(Clone, Copy)]
 pub enum BandPass {
     Done(BandDrawing),
     Refused(Refusal),

@@ -1,4 +1,6 @@
 // The cells of a grid: the sample test, the cell number, the case table, the change that a cell makes, and the index of a point.
+#![tactic(auto)]
+
 ghost use Rattle.std.specs.Prelude.{◌≡◌, ◌+◌, ◌*◌, ◌^◌, ◌≤◌, ◌<◌, length};
 ghost use Rattle.scope.specs.Terrain.{above_at};
 ghost use Rattle.scope.specs.Cells.{when, number_of, drawn, opened, closed, point_index, indexed_point};
@@ -81,7 +83,7 @@ pub const TOP: u8 = 2;
 pub const BOTTOM: u8 = 3;
 
 // A segment of a cell, from the side of one number to the side of another.
-#[derive(Drop)]
+#[derive(Clone, Copy)]
 pub struct Stroke {
     pub from: u8,
     pub to: u8,
@@ -188,7 +190,7 @@ pub fn stroke_at(number: usize, k: usize) -> Stroke
 }
 
 // What a cell changes: how many open lines there are more after it, how many fewer, and how many segments it draws.
-#[derive(Drop)]
+#[derive(Clone, Copy)]
 pub struct Change {
     pub opened: u8,
     pub closed: u8,
@@ -238,7 +240,7 @@ pub fn point_index(x: u32, y: u32, dx: u32) -> u32
 }
 
 // A point of doubled coordinates.
-#[derive(Drop)]
+#[derive(Clone, Copy)]
 pub struct Point {
     pub x: u32,
     pub y: u32,

@@ -1,6 +1,8 @@
 // The public face: the two reports, the rings of a grid, the rings of a terrain that comes row by row, a grid's lines, contours and isobands, the reports of a band,
 // the area of a ring, a ring against a ring, the check of a ring set, the length of its text and the text, and why a ring or a vertex is what it is.
 // None asks anything of the caller.
+#![tactic(auto)]
+
 ghost use Rattle.std.specs.Prelude.{◌≡◌};
 ghost use Rattle.area.specs.Answers.{area_answer, contains_answer};
 ghost use Rattle.bands.specs.Bands.{band_first_report, BandReported, BandBuilt};

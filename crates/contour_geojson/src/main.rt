@@ -1,5 +1,7 @@
 // Reads a terrain and its threshold from standard input and writes the regions that reach the threshold, as GeoJSON: one MultiPolygon. A text that is faulty is
 // refused with number 12, and nothing else is: the tables have room for every terrain that is read.
+#![tactic(auto)]
+
 ghost use Rattle.std.specs.Prelude.{◌≡◌, ◌*◌, ◌≤◌, length};
 ghost use Rattle.scope.specs.Terrain.{above_at, at_least, terrain};
 ghost use Rattle.scope.specs.GeoJson.{geo_json_text};

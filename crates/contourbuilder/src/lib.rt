@@ -1,4 +1,6 @@
 // Contours and isobands of a grid, over tables that the caller lends: every ring with its class and its owner, or none. Neither asks anything of the caller.
+#![tactic(auto)]
+
 ghost use Rattle.std.specs.Prelude.{◌≡◌, ◌≤◌, length};
 ghost use Rattle.scope.specs.Terrain.{above_at, terrain};
 ghost use Rattle.scope.specs.Room.{directory_words};

@@ -1,5 +1,7 @@
 // Which vertex of a ring decides where the ring lies to another, over the points of all rings in packed order. The outer ring is closed, so every vertex in the
 // row of its first point answers 0.
+#![tactic(auto)]
+
 ghost use Rattle.std.specs.Prelude.{◌≡◌};
 ghost use Rattle.extents.specs.Points.{ring_in};
 ghost use Rattle.deciding.specs.Decisions.{decision_of, RingLies, RingCloses};
@@ -7,7 +9,7 @@ ghost use Rattle.deciding.specs.Decisions.{decision_of, RingLies, RingCloses};
 use taking::{Place, along};
 
 // What the vertices of a ring come to against another ring, the outer one.
-#[derive(Drop)]
+#[derive(Clone, Copy)]
 pub enum Decision {
     // the vertex of this number lies inside the outer ring, and every vertex before it answers 0
     Inside(u32),

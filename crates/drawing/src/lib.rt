@@ -1,5 +1,7 @@
 // One cell of a grid, drawn over the open table and the link table by its number. The tables may be of any length and hold anything: every step is total, as the
 // table machine is, which each contract cites.
+#![tactic(auto)]
+
 ghost use Rattle.std.specs.Prelude.{◌≡◌, ◌+◌, ◌-◌, ◌^◌, ◌<◌};
 ghost use Rattle.cells.specs.Sides.{numbered, stroke_at};
 ghost use Rattle.machine.specs.Machine.{side_word};
@@ -10,7 +12,7 @@ use cells::{BOTTOM, LEFT, RIGHT, Stroke, TOP, point_index, stroke_at};
 use lines::{Entry, Progress, append, connect, entry_of, prepend, start};
 
 // How far the pass has come: the progress of stitching, and the number of the next link.
-#[derive(Drop)]
+#[derive(Clone, Copy)]
 pub struct Run {
     pub progress: Progress,
     pub next: u32,
@@ -24,7 +26,7 @@ fn one_before(n: u32) -> u32
 }
 
 // The indexes of the points on a cell's four sides.
-#[derive(Drop)]
+#[derive(Clone, Copy)]
 pub struct Points {
     pub left: u32,
     pub right: u32,

@@ -1,9 +1,11 @@
 // The refusals of the library, as an enum, each with the number that document 01 gives it.
+#![tactic(auto)]
+
 ghost use Rattle.std.specs.Prelude.{◌≡◌};
 ghost use Rattle.error.specs.Number.{refusal_number};
 
 // Why a call was refused. The lowest number that applies is returned, alone.
-#[derive(Drop)]
+#[derive(Clone, Copy)]
 pub enum Refusal {
     // a side is 0 or above the limit
     BadSide,

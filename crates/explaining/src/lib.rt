@@ -1,5 +1,7 @@
 // Why a ring is what it is: its fate by the points of a ring set, what one ring of the set answers for another, and what smoothing does to a vertex. Nothing is
 // asked of the caller, no table is lent but the set itself, and nothing changes.
+#![tactic(auto)]
+
 ghost use Rattle.std.specs.Prelude.{◌≡◌, false, ◌<◌};
 ghost use Rattle.scope.specs.Containment.{not_outside};
 ghost use Rattle.scope.specs.GeoJson.{count_at, ring_at, ring_set_refused};
@@ -17,7 +19,7 @@ use scope::Level;
 use smoothing::{VertexMoves, vertex_moves};
 
 // What becomes of a ring of a contour.
-#[derive(Drop)]
+#[derive(Clone, Copy)]
 pub enum RingFate {
     // its area is above 0
     Polygon,
@@ -30,7 +32,7 @@ pub enum RingFate {
 }
 
 // What a ring answers for another.
-#[derive(Drop)]
+#[derive(Clone, Copy)]
 pub enum PolygonAnswer {
     // what the vertices of the other ring come to
     Decided(Decision),
@@ -39,7 +41,7 @@ pub enum PolygonAnswer {
 }
 
 // What smoothing does to a vertex of a ring.
-#[derive(Drop)]
+#[derive(Clone, Copy)]
 pub enum VertexAnswer {
     // what it does to each coordinate
     Moves(VertexMoves),

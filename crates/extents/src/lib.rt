@@ -1,4 +1,6 @@
 // Extents of points, and ladders of extents in a table of words, by which a search passes over what lies apart.
+#![tactic(auto)]
+
 ghost use Rattle.std.specs.Prelude.{◌≡◌, true, ◌+◌, ◌*◌, ◌-◌, ◌/◌, ◌≤◌, ◌<◌, min, max, length, set};
 ghost use Rattle.extents.specs.Points.{ring_in};
 ghost use Rattle.extents.specs.Extents.{apart, grown, Inside, extent_at, extent_of};
@@ -6,7 +8,7 @@ ghost use Rattle.extents.specs.Ladders.{Raised, NextNear, RaisedOver, ChunkedOve
 ghost use Rattle.extents.specs.Filling.{Filled, HoldsItems, HoldsGroup, HoldsChunk};
 
 // The smallest and largest X and Y of some points.
-#[derive(Drop)]
+#[derive(Clone, Copy)]
 pub struct Extent {
     pub left: u16,
     pub right: u16,
@@ -15,7 +17,7 @@ pub struct Extent {
 }
 
 // Where the extents of a ladder stand in its table, two words each, and how many: of the items, of every 64 items, and of every 64 of these.
-#[derive(Drop)]
+#[derive(Clone, Copy)]
 pub struct Ladder {
     pub items: usize,
     pub item_count: usize,

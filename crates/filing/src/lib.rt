@@ -1,4 +1,6 @@
 // The table that a search for classes and owners goes by: the extents of the rings by number, the record of each, and the ladders over rings and points.
+#![tactic(auto)]
+
 ghost use Rattle.std.specs.Prelude.{◌≡◌, ◌*◌, ◌^◌, ◌≤◌, ◌<◌, length};
 ghost use Rattle.extents.specs.Records.{RingsThere, Permutes, record_number, Filed};
 ghost use Rattle.filing.specs.Steps.{Rankable, Ranked, Measurable, MeasuredOne, Measured, ladder_end};
@@ -7,7 +9,7 @@ use extents::Ladder;
 use limits::SHORT_STRIDE;
 
 // The ladder over the rings and the ladder over the points.
-#[derive(Drop)]
+#[derive(Clone, Copy)]
 pub struct Filing {
     pub rings: Ladder,
     pub chunks: Ladder,

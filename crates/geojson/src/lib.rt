@@ -1,4 +1,6 @@
 // The GeoJSON writer: the length of a ring set's text, and the text. Each takes any words whatever and asks nothing of the caller.
+#![tactic(auto)]
+
 ghost use Rattle.std.specs.Prelude.{◌≡◌};
 ghost use Rattle.geojson.specs.Written.{length_answer, written_answer, text_after};
 
@@ -8,7 +10,7 @@ use ringset::ring_set_faulty;
 use writing::write_within;
 
 // How long a text is, or why there is none.
-#[derive(Drop)]
+#[derive(Clone, Copy)]
 pub enum TextAnswer {
     Bytes(u64),
     Refused(Refusal),

@@ -1,4 +1,6 @@
 // The text of a coordinate, a point and a ring as bytes, how long each is, and how long the text of a checked ring set is.
+#![tactic(auto)]
+
 ghost use Rattle.std.specs.Prelude.{◌≡◌, ◌+◌, ◌-◌, ◌*◌, ◌^◌, ◌≤◌, ◌<◌, length, false, [], ◌∷◌};
 ghost use Rattle.std.proofs.lemmas.List.Edits.{sets};
 ghost use Rattle.scope.specs.Limits.{point_limit};

@@ -1,6 +1,8 @@
 // A row of cells drawn over the open table and the link table, with the rings that close in it given out: a ring's points and its record are written to the
 // outputs, and then its links are free for other segments. Every function is total, as the row machine is: a word past a table's end reads as 0 and is not
 // stored.
+#![tactic(auto)]
+
 ghost use Rattle.std.specs.Prelude.{◌≡◌, ◌+◌, ◌-◌, ◌^◌, ◌<◌};
 ghost use Rattle.std.proofs.lemmas.List.Edits.{sets};
 ghost use Rattle.scope.specs.Room.{directory_words};
@@ -26,7 +28,7 @@ use words::{Pane, SAMPLES, bit_at, changes_in, number_in, pane_of};
 
 // How far the drawing has come: the open lines; of the links the first free one, how many were ever used and how many are held; and the rings given out
 // so far with their points.
-#[derive(Drop)]
+#[derive(Clone, Copy)]
 pub struct Play {
     pub count: u32,
     pub spare: u32,

@@ -1,4 +1,6 @@
 // Whether a grid fits: both sides within the limit, and a value for each sample.
+#![tactic(auto)]
+
 ghost use Rattle.std.specs.Prelude.{◌≡◌};
 ghost use Rattle.grid.specs.Grid.{grid_fit};
 
@@ -6,7 +8,7 @@ use error::Refusal;
 use limits::SIDE_LIMIT;
 
 // Whether a grid can be scanned.
-#[derive(Drop)]
+#[derive(Clone, Copy)]
 pub enum GridFit {
     // both sides are within the limit, and there is a value for each sample
     Fits,

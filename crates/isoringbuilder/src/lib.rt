@@ -1,5 +1,7 @@
 // The rings of a grid at one level, over tables that the caller lends: the second report, which gives all room, and contour_rings, which gives every
 // ring or none. Neither asks anything of the caller: bad sides, lengths or room draw the lowest refusal that applies.
+#![tactic(auto)]
+
 ghost use Rattle.std.specs.Prelude.{◌≡◌, ◌≤◌, length};
 ghost use Rattle.scope.specs.Limits.{side_limit};
 ghost use Rattle.scope.specs.Room.{open_words, link_words, point_words, directory_words};
@@ -18,7 +20,7 @@ use spreading::spread;
 use stitching::stitch;
 
 // What the second report answers.
-#[derive(Drop)]
+#[derive(Clone, Copy)]
 pub enum SecondReport {
     // segments S, rings R, the peak of open lines H, and points S + R
     Room {
@@ -32,7 +34,7 @@ pub enum SecondReport {
 }
 
 // What `contour_rings` answers.
-#[derive(Drop)]
+#[derive(Clone, Copy)]
 pub enum Built {
     // how many rings now stand in points and directory
     Rings(u32),
@@ -41,7 +43,7 @@ pub enum Built {
 }
 
 // What a stitching pass leaves to be written: its counts, and the first ring's first link.
-#[derive(Drop)]
+#[derive(Clone, Copy)]
 pub struct Drawing {
     pub segments: u32,
     pub peak: u32,
@@ -50,7 +52,7 @@ pub struct Drawing {
 }
 
 // A stitching pass that was done, or the refusal before it.
-#[derive(Drop)]
+#[derive(Clone, Copy)]
 pub enum Pass {
     Done(Drawing),
     Refused(Refusal),

@@ -1,4 +1,6 @@
 // A word of a lent table, which may be of any length: past the end it reads as 0 and is not stored. And the mark by which the links of rings end.
+#![tactic(auto)]
+
 ghost use Rattle.std.specs.Prelude.{◌≡◌, get_or, set};
 
 // The last link of a ring holds this number, with the first link of the next ring added. No link has this number or a larger one.

@@ -1,5 +1,6 @@
 // Document 01's numbers that code in several crates names: its limits, the words of a directory record, the classes, and the owner of a ring that has none.
 // Constants alone; in contracts these are the definitions of `scope`.
+#![tactic(auto)]
 
 // The most columns and the most rows of a grid.
 pub const SIDE_LIMIT: usize = 4096;

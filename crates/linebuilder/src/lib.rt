@@ -1,4 +1,6 @@
 // The lines of a grid at one level, smoothed and placed, over tables that the caller lends: every line or none. Nothing is asked of the caller.
+#![tactic(auto)]
+
 ghost use Rattle.std.specs.Prelude.{◌+◌, ◌*◌, ◌^◌, ◌<◌};
 ghost use Rattle.smoothing.specs.Values.{placing_of};
 ghost use Rattle.linebuilder.specs.Lines.{Plotted, LinesBuilt};

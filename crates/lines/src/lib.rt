@@ -1,5 +1,7 @@
 // The code of stitching over two lent slices of words, the open table and the link table: the five rules, and the lines that a cell meets. Every function
 // is total, as the table machine is, which each contract cites: a word past a table's end reads as 0 and is not stored.
+#![tactic(auto)]
+
 ghost use Rattle.std.specs.Prelude.{◌≡◌, cond, ◌+◌, ◌-◌, eqb};
 ghost use Rattle.machine.specs.Machine.{mark, word_of, with_next, started, appended, prepended, joined, closed, entry_of};
 ghost use Rattle.lines.specs.Values.{tables_of, edges_of, connected};
@@ -10,7 +12,7 @@ use tables::{Slot, column_word, put_link, put_next, put_slot, release, slot_at, 
 pub mod tables;
 
 // How far stitching has come: the open lines, the rings, the first ring's first link, and the last ring's last link.
-#[derive(Drop)]
+#[derive(Clone, Copy)]
 pub struct Progress {
     pub count: u32,
     pub rings: u32,
@@ -19,7 +21,7 @@ pub struct Progress {
 }
 
 // The slots of the lines at a cell's left and top edge, as the frontier has them before the cell is drawn.
-#[derive(Drop)]
+#[derive(Clone, Copy)]
 pub struct Entry {
     pub left: u32,
     pub top: u32,

@@ -1,4 +1,6 @@
 // The area of a ring as a record holds it, by one walk over the ring's points that looks for a coordinate above the limit too.
+#![tactic(auto)]
+
 ghost use Rattle.std.specs.Prelude.{◌≡◌, ◌/◌, ◌%◌, ◌^◌, ◌<◌, [], ◌∷◌, length};
 ghost use Rattle.std.proofs.lemmas.List.Edits.{sets};
 ghost use Rattle.scope.specs.Limits.{coordinate_limit};
@@ -10,7 +12,7 @@ use lent::put;
 use std::num::{wrapping_add_u64, wrapping_sub_u64};
 
 // What a walk over a ring's points finds.
-#[derive(Drop)]
+#[derive(Clone, Copy)]
 pub struct Found {
     // whether a coordinate is above the limit
     pub over: bool,

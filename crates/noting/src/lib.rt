@@ -1,4 +1,6 @@
 // What a contour or a band needs to know of each ring before owners are sought: where its points begin, its class by area or its key by size, and its number.
+#![tactic(auto)]
+
 ghost use Rattle.std.specs.Prelude.{◌≡◌, nat_abs};
 ghost use Rattle.scope.specs.Area.{area, positive};
 ghost use Rattle.scope.specs.Band.{sort_key};

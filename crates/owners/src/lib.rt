@@ -1,5 +1,7 @@
 // Classes of a band's rings and owners of holes and interiors, over points already written, records whose rings are known, and the table that `filing` fills.
 // Both searches go through the rings by number: rings whose numbers are near lie near each other, and the ladder passes over those that lie apart.
+#![tactic(auto)]
+
 ghost use Rattle.std.specs.Prelude.{◌≡◌, ◌*◌, ◌≤◌, ◌<◌, length, get_or};
 ghost use Rattle.scope.specs.Contour.{takes};
 ghost use Rattle.extents.specs.Extents.{reach};

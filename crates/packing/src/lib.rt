@@ -1,5 +1,7 @@
 // What a build writes once all rings are closed: the points and the directory, by one walk along the links, and the zeros that the work tables are left
 // with. Every function is total: a word past a table's end reads as 0 and is not stored.
+#![tactic(auto)]
+
 ghost use Rattle.std.specs.Prelude.{◌≡◌, ◌%◌, ◌^◌, set};
 ghost use Rattle.std.proofs.lemmas.List.Edits.{sets};
 ghost use Rattle.machine.specs.Machine.{link_next};

@@ -1,5 +1,7 @@
 // What a build of lines writes once all rings are closed: the points as f64 and the directory, by one walk along the links. Every function is total: a word
 // past a table's end reads as 0 and is not stored.
+#![tactic(auto)]
+
 ghost use Rattle.std.specs.Prelude.{◌≡◌, [], ◌∷◌, ◌++◌, ◌+◌, ◌*◌, ◌/◌, ◌%◌, ◌^◌, ◌<◌, pos, set};
 ghost use Rattle.std.proofs.lemmas.List.Edits.{sets};
 ghost use Rattle.scope.specs.Smoothing.{line_vertex};

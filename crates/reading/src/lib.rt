@@ -1,4 +1,6 @@
 // Reads the program's input: the text of a terrain and its threshold, as bytes. A text is read whole or not at all.
+#![tactic(auto)]
+
 ghost use Rattle.std.specs.Prelude.{◌≡◌, ◌≤◌, ◌<◌, length};
 ghost use Rattle.scope.specs.Smoothing.{whole};
 ghost use Rattle.scope.specs.Program.{number_limit};
@@ -15,7 +17,7 @@ pub const VALUES: usize = 1024;
 const LIMIT: usize = 65535;
 
 // What stands in a text.
-#[derive(Drop)]
+#[derive(Clone, Copy)]
 pub enum Reading {
     // a terrain of this many columns and rows, and its threshold
     Terrain {
@@ -28,7 +30,7 @@ pub enum Reading {
 }
 
 // What stands at a place of a text.
-#[derive(Drop)]
+#[derive(Clone, Copy)]
 enum Number {
     // a number and its end, and the place past them
     Found { value: usize, next: usize },
@@ -37,7 +39,7 @@ enum Number {
 }
 
 // What the first line of a text says.
-#[derive(Drop)]
+#[derive(Clone, Copy)]
 enum Head {
     // columns, rows and threshold, and the place past the line
     Sides {
@@ -50,7 +52,7 @@ enum Head {
 }
 
 // What the lines after the first are.
-#[derive(Drop)]
+#[derive(Clone, Copy)]
 enum Rows {
     // read, up to this place
     Read(usize),

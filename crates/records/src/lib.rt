@@ -1,5 +1,7 @@
 // The calls with the directory as a run of records, each holding its fate, beside the directory words that the word form takes: the four builds, and the check,
 // the length and the text of a ring set. Each is the word form over words that are copied out into the records, or in from them, and asks nothing of the caller.
+#![tactic(auto)]
+
 ghost use Rattle.std.specs.Prelude.{◌≡◌, ◌≤◌, length, take};
 ghost use Rattle.scope.specs.GeoJson.{ring_set_refused};
 ghost use Rattle.bands.specs.Bands.{BandBuilt};

@@ -1,5 +1,7 @@
 // Rings become regions: the classes and owners of a contour, and the order, classes and owners of a band, over points and point counts already written. The
 // records are without areas.
+#![tactic(auto)]
+
 ghost use Rattle.std.specs.Prelude.{◌≡◌, ◌*◌, ◌≤◌, length};
 ghost use Rattle.scope.specs.Tables.{written, short_of};
 ghost use Rattle.regions.specs.Regions.{counted_rings, sorted_first, contour_by, sorted_by, Workable};

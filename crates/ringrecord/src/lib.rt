@@ -1,5 +1,7 @@
 // A directory record as a struct that holds its fate and its area, the way from the six words of a record to it and back, and the copies of a whole directory
 // from words to records and back. A copy is all or nothing and asks nothing of the caller.
+#![tactic(auto)]
+
 ghost use Rattle.std.specs.Prelude.{◌≡◌, length};
 ghost use Rattle.std.proofs.lemmas.List.Edits.{sets};
 ghost use Rattle.scope.specs.Area.{twos_complement};
@@ -15,7 +17,7 @@ use measuring::put_area;
 use ringset::record_at;
 
 // What became of a ring.
-#[derive(Drop)]
+#[derive(Clone, Copy)]
 pub enum Fate {
     Polygon,
     // a hole, and the record number of the polygon that it belongs to
@@ -26,7 +28,7 @@ pub enum Fate {
 }
 
 // A directory record: the number of the ring's first point, how many points it has, its fate and its signed area.
-#[derive(Drop)]
+#[derive(Clone, Copy)]
 pub struct RingRecord {
     pub first: u32,
     pub count: u32,

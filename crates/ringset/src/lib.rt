@@ -1,4 +1,6 @@
 // The check of a ring set: whether words are points and a directory such as a reader takes, which is number 9 of document 01. It takes any words whatever.
+#![tactic(auto)]
+
 ghost use Rattle.std.specs.Prelude.{◌≡◌, ◌<◌, ◌%◌, length};
 ghost use Rattle.scope.specs.Area as Area;
 ghost use Rattle.scope.specs.GeoJson.{first_at, count_at, class_at, owner_at, area_low_at, area_high_at, unclosed, record_refused, ring_set_refused};
@@ -9,7 +11,7 @@ use limits::{HOLE, NO_OWNER, POINT_LIMIT, POLYGON, RECORD_STRIDE};
 use measuring::measure;
 
 // A directory record. Its last two words are the ring's area in two's complement.
-#[derive(Drop)]
+#[derive(Clone, Copy)]
 pub struct Record {
     pub first: u32,
     pub count: u32,

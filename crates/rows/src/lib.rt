@@ -1,6 +1,8 @@
 // The rings of a terrain that comes row by row: begin, a row of values at a time, and end. Each row or end draws one row of cells and gives out the rings that
 // close in it. Between two calls the state has the last row's samples, the open table the unfinished lines, and the link table their segments. A call is tried
 // over the frontier's words before it changes anything else, so that it is taken whole or refused whole.
+#![tactic(auto)]
+
 ghost use Rattle.std.specs.Prelude.{◌≡◌, not, ◌≤◌, max, length};
 ghost use Rattle.scope.specs.Limits.{side_limit};
 ghost use Rattle.grid.specs.Grid.{Sized, bad_side};
@@ -19,7 +21,7 @@ use words::SAMPLES;
 
 // What a terrain that comes row by row has come to: its sides and its level; how many rows of cells are drawn; the open lines and the most there ever were; of
 // the links the first free one, how many were ever used and how many are held; and the samples of the last row.
-#[derive(Drop)]
+#[derive(Clone, Copy)]
 pub struct Rows {
     pub level: Level,
     pub dx: u32,
@@ -34,7 +36,7 @@ pub struct Rows {
 }
 
 // The state after a call, and what the call answers: how many rings it has given out, or why it was refused, which leaves the state as it was.
-#[derive(Drop)]
+#[derive(Clone, Copy)]
 pub struct Step {
     pub state: Rows,
     pub answer: Built,

@@ -1,5 +1,7 @@
 // The state of a terrain that comes row by row as a fixed number of words, for a caller who is lent none of our structs: eight numbers, the threshold by its
 // bits, the rule by its number, and the samples of the last row, two words for sixty-four of them.
+#![tactic(auto)]
+
 ghost use Rattle.std.specs.Prelude.{◌≡◌};
 ghost use Rattle.std.specs.Float.{binary64};
 ghost use Rattle.std.specs.Float.Ieee.{of_bits, to_bits};

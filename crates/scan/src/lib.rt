@@ -1,5 +1,7 @@
 // The scan of a grid: the samples of its sheet, and the first report, which counts segments and the peak of open lines
 // without work tables.
+#![tactic(auto)]
+
 ghost use Rattle.std.specs.Prelude.{◌≡◌, suc, ◌+◌, ◌*◌, ◌^◌, ◌≤◌, ◌<◌, length};
 ghost use Rattle.scope.specs.Limits.{side_limit};
 ghost use Rattle.scope.specs.Terrain.{above_at, terrain};
@@ -53,7 +55,7 @@ pub fn tile_of(r: usize, w: usize) -> usize
 }
 
 // What the scan has counted after some cells: the segments drawn, the lines open now, and the most that were open after any cell.
-#[derive(Drop)]
+#[derive(Clone, Copy)]
 pub struct Counts {
     pub segments: u32,
     pub open_lines: u32,
@@ -213,7 +215,7 @@ pub fn scan(values: &[f64], level: Level, dx: usize, dy: usize, marks: &mut [u8;
 }
 
 // What the first report answers.
-#[derive(Drop)]
+#[derive(Clone, Copy)]
 pub enum FirstReport {
     // the segments drawn and the peak of open lines, from which the room of the open table and of the link table follows
     Room { segments: u32, peak: u32 },

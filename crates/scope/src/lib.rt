@@ -1,8 +1,9 @@
 // Document 01 as definitions: they stand in specs/, and there is no code. Here are only the types that the definitions share with it.
 // The contracts of the other crates cite these definitions, and `laws` proves what holds of them.
+#![tactic(auto)]
 
 // How a sample is held to the threshold.
-#[derive(Drop)]
+#[derive(Clone, Copy)]
 pub enum Rule {
     // its value is at least the threshold
     AtLeast,
@@ -11,7 +12,7 @@ pub enum Rule {
 }
 
 // What decides whether a sample is above.
-#[derive(Drop)]
+#[derive(Clone, Copy)]
 pub struct Level {
     pub threshold: f64,
     pub rule: Rule,

@@ -1,4 +1,6 @@
 // A line's vertex as f64: smoothed or not, then placed. Each operation is rounded once, left to right, and every function is total.
+#![tactic(auto)]
+
 ghost use Rattle.std.specs.Prelude.{◌≡◌, cond, ◌-◌, ◌/◌};
 ghost use Rattle.scope.specs.Smoothing.{moved, sample_at, moves, real_of, placing, placed_at, line_vertex};
 ghost use Rattle.smoothing.specs.Coordinates.{fraction, moved_by, coordinate_moves, vertex_moves};
@@ -8,7 +10,7 @@ use cells::Point;
 use scope::Level;
 
 // Where a line is to stand: the place of the point (0, 0), and how far apart neighbouring columns and rows are.
-#[derive(Drop)]
+#[derive(Clone, Copy)]
 pub struct Placement {
     pub x_origin: f64,
     pub y_origin: f64,
@@ -17,14 +19,14 @@ pub struct Placement {
 }
 
 // A vertex of a line.
-#[derive(Drop)]
+#[derive(Clone, Copy)]
 pub struct Vertex {
     pub x: f64,
     pub y: f64,
 }
 
 // What smoothing does to a coordinate.
-#[derive(Drop)]
+#[derive(Clone, Copy)]
 pub enum Coordinate {
     // it is a half, or no less than the side, or 0, and stays
     Stayed,
@@ -35,7 +37,7 @@ pub enum Coordinate {
 }
 
 // What smoothing does to a vertex.
-#[derive(Drop)]
+#[derive(Clone, Copy)]
 pub struct VertexMoves {
     pub x: Coordinate,
     pub y: Coordinate,

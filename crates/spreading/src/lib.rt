@@ -1,4 +1,6 @@
 // The last step of a build over records that it has worked on without their areas: they are spread out to whole records, each with its ring's area.
+#![tactic(auto)]
+
 ghost use Rattle.std.specs.Prelude.{◌≡◌, ◌*◌, ◌^◌, ◌≤◌, ◌<◌, length};
 ghost use Rattle.std.proofs.lemmas.List.Edits.{sets};
 ghost use Rattle.scope.specs.Room.{directory_words};

@@ -1,5 +1,7 @@
 // The stitching pass: every cell of a grid, row by row, draws its strokes over the open table and the link table. The tables may be of any length and
 // hold anything: every step is total, as the table machine is, which each contract cites.
+#![tactic(auto)]
+
 ghost use Rattle.std.specs.Prelude.{◌≡◌, suc, ◌+◌, ◌-◌, ◌*◌, ◌^◌, ◌≤◌, ◌<◌, length};
 ghost use Rattle.scope.specs.Terrain.{above_at, terrain};
 ghost use Rattle.words.specs.Panes.{Shows, changes_in};

@@ -1,4 +1,6 @@
 // A sweep over the cells between two rows of words: what it is stands in specs/, and what loops cite of it in proofs/. Here, a word of a row.
+#![tactic(auto)]
+
 ghost use Rattle.std.specs.Prelude.{◌≡◌, ◌<◌, get_or};
 
 use scan::ROW_WORDS;

@@ -1,4 +1,6 @@
 // Whether a ring takes another, which is that its answer for it is not -1, over the points of all rings in packed order.
+#![tactic(auto)]
+
 ghost use Rattle.std.specs.Prelude.{◌≡◌, ◌+◌, ◌*◌, ◌≤◌, min, length};
 ghost use Rattle.scope.specs.Containment.{point_against};
 ghost use Rattle.scope.specs.Contour.{takes};
@@ -11,7 +13,7 @@ use area::{flips, on_pair};
 use extents::{Extent, Ladder, next_near};
 
 // Where a point lies to a ring, or to some of its pairs.
-#[derive(Drop)]
+#[derive(Clone, Copy)]
 pub enum Place {
     // on no pair, and inside by the sign
     Inside,

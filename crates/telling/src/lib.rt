@@ -1,5 +1,7 @@
 // What the library answers of a ring's fate, of an answer or of a vertex, told to a caller in C: 0 or the refusal's number, and the outputs, which a refusal leaves
 // as they were.
+#![tactic(auto)]
+
 ghost use Rattle.std.specs.Prelude.{◌≡◌};
 ghost use Rattle.telling.specs.Outputs.{vertex_word, fate_status, fate_class, fate_owner, fate_vertex, answer_status, answer_output, answer_vertex, kind_of, fraction_of, vertex_status, x_kind_of, x_fraction_of, y_kind_of, y_fraction_of};
 

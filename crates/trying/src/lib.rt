@@ -1,6 +1,8 @@
 // The trial of a row: what the row's cells come to, in lines, segments, rings and points, played over the frontier's words alone. A frontier word notes the
 // word of its line's other tip and half of the digits of the line's number of links, so that no slot and no link is touched, and the frontier can be noted
 // anew from the slots. Every function is total: a word past the table's end reads as 0 and is not stored.
+#![tactic(auto)]
+
 ghost use Rattle.std.specs.Prelude.{◌≡◌, ◌-◌, ◌^◌, ◌≤◌, ◌<◌, max};
 ghost use Rattle.scope.specs.Limits.{side_limit};
 ghost use Rattle.words.specs.Panes.{Shows, changes_in};
@@ -21,7 +23,7 @@ use words::{Pane, SAMPLES, bit_at, changes_in, number_in, pane_of};
 
 // What a trial has counted: the open lines and the most after any cell, the segments in no closed ring and the most after any cell, and the rings that closed
 // with their points.
-#[derive(Drop)]
+#[derive(Clone, Copy)]
 pub struct Trial {
     pub lines: u32,
     pub peak: u32,

@@ -1,4 +1,6 @@
 // Which way a ring of a checked set is written: RFC 7946 wants exteriors counterclockwise and holes clockwise, with y upward.
+#![tactic(auto)]
+
 ghost use Rattle.std.specs.Prelude.{◌≡◌};
 ghost use Rattle.scope.specs.Area.{area_from};
 ghost use Rattle.scope.specs.GeoJson.{backwards};

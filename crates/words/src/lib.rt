@@ -1,4 +1,6 @@
 // Rows of samples as the bits of words: sixty-four samples a word, the first of them lowest, and sixty-four cells by the words of their samples.
+#![tactic(auto)]
+
 ghost use Rattle.std.specs.Prelude.{◌≡◌, ◌+◌, ◌≤◌, ◌<◌, length};
 ghost use Rattle.std.specs.Int.Count.{ones};
 ghost use Rattle.scope.specs.Terrain.{above_at};
@@ -116,7 +118,7 @@ pub fn bit_at(word: u64, j: u32) -> bool
 }
 
 // Sixty-four neighbouring cells of a row, by their four samples: bit `j` of each word is a sample of cell `j`.
-#[derive(Drop)]
+#[derive(Clone, Copy)]
 pub struct Pane {
     pub lower_left: u64,
     pub lower_right: u64,
@@ -166,7 +168,7 @@ pub fn number_in(pane: Pane, j: u32) -> usize
 }
 
 // What the cells of a pane come to: the segments they draw, and how many of them leave one open line more, and one fewer.
-#[derive(Drop)]
+#[derive(Clone, Copy)]
 pub struct Tally {
     pub segments: u32,
     pub opened: u32,
