@@ -4,8 +4,7 @@ use Prim.Native.Nat.{◌≤◌, ◌*◌, ◌^◌, ◌<◌, ℕ}
 use native.Mathlib.Nat.{mul-le-mul_left}
 use native.Mathlib.Omega.{arith}
 use borrow.Author.Rules.{rules}
-use Rattle.area.proofs.product.Statement.{statement}
-use Rattle.area.proofs.product.Tie as tie
+use Rattle.area.proofs.product.Goals as goal
 
 -- the bound that both needs ask
 below : (a b : ℕ) → a < 2 ^ 16 → b < 2 ^ 16 → a * b < 2 ^ 32
@@ -13,11 +12,8 @@ below a b ha hb =
     let p : a * b ≤ a * 65535 = mul-le-mul_left a (omega arith) in
     omega arith
 
-mul-result : tie.Need-overflow-mul-result
-mul-result c = omega (arith, below c.args.a c.args.b (omega arith) (omega arith))
+pub overflow_mul-result : goal.overflow_mul-result
+overflow_mul-result c = omega (arith, below c.args.a c.args.b (omega arith) (omega arith))
 
-returns : tie.Need-returns
+pub returns : goal.returns
 returns c = (search rules, below c.args.a c.args.b (omega arith) (omega arith))
-
-pub product-spec : {M : Type 1} → statement M
-product-spec = tie.close (tie.spec mul-result returns)

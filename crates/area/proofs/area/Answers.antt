@@ -1,0 +1,51 @@
+-- `area::area` meets its contract: past the test the words are a ring, few enough that both sums fit an `i64`, and their difference is the area.
+-- Assumes nothing.
+use mathlib.Core.Path.{sym, ◌∙◌}
+use Prim.Native.Nat.{◌<◌, ◌^◌}
+use native.Mathlib.Omega.{arith}
+use lib.ListN.{length}
+use borrow.Author.Rules.{rules}
+use Rattle.area.specs.Answers.{area_answer}
+use Rattle.area.proofs.Differences.{machine-diff-fits, machine-diff}
+use Rattle.area.proofs.Words.{Sound, ring-sound}
+use Rattle.area.proofs.area.Goals as goal
+
+-- past the test the words are a ring
+accepted : (c : tie.Else1) → Sound c.args.ring.now × (0 < length c.args.ring.now)
+accepted c = ring-sound _ (sym c.no_ring.ensures ∙ c.if-no_ring.false)
+
+-- so both sums fit
+small : (c : tie.After-sum-up) → (c.sum_up-sums.result.gained < 2 ^ 63) × (c.sum_up-sums.result.lost < 2 ^ 63)
+small c =
+    let sums = c.sum_up-sums.ensures in
+    let few = (accepted c).0.few in
+    (omega (arith, sums.gained-small, few), omega (arith, sums.lost-small, few))
+
+pub returns-then-no_ring : goal.returns-then-no_ring
+unfolding area_answer
+returns-then-no_ring c = simp (← c.no_ring.ensures, c.if-no_ring.true)
+
+pub sum_up-sums-requires : goal.sum_up-sums-requires
+sum_up-sums-requires c =
+    let ring = accepted c in
+    (ring.0.paired, ring.1, omega (arith, ring.0))
+
+pub overflow_cast-signed : goal.overflow_cast-signed
+overflow_cast-signed c = record { sfits = (small c).0 }
+
+pub overflow_cast-signed-2 : goal.overflow_cast-signed-2
+overflow_cast-signed-2 c = record { sfits = (small c).1 }
+
+pub overflow_sub-signed : goal.overflow_sub-signed
+overflow_sub-signed c =
+    machine-diff-fits c.sum_up-sums.result.gained c.sum_up-sums.result.lost (small c).0 (small c).1
+
+pub returns : goal.returns
+unfolding area_answer
+returns c =
+    simp (
+      ← c.no_ring.ensures,
+      c.if-no_ring.false,
+      c.sum_up-sums.ensures.area-is,
+      machine-diff c.sum_up-sums.result.gained c.sum_up-sums.result.lost (small c).0 (small c).1,
+    )

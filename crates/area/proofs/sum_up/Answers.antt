@@ -1,0 +1,30 @@
+-- `area::sum_up` meets its contract. The loop's invariant is `Summing`; the measure is what is left of the length. Assumes nothing.
+use Prim.Native.Nat.{◌-◌}
+use native.Mathlib.Omega.{arith}
+use lib.ListN.{length}
+use borrow.Author.Rules.{rules}
+use Rattle.scope.specs.Limits.{coordinate_limit}
+use Rattle.area.proofs.Sums.{sums-end}
+use Rattle.area.proofs.Words.{last_point}
+use Rattle.area.proofs.Summing.{Summing, summing-begin, summing-next, none_left}
+use Rattle.area.proofs.sum_up.Goals as goal
+
+pub loop-i-init : goal.loop-i-init
+unfolding last_point
+loop-i-init c = let pre = c.requires in summing-begin _ pre.0 pre.1 pre.2
+
+pub loop-i-preserved : goal.loop-i-preserved
+unfolding coordinate_limit
+loop-i-preserved c =
+    summing-next c.loop-i.invariant c.loop-i-test.true c.product-gained.ensures c.product-lost.ensures
+
+pub returns : goal.returns
+returns c =
+    let inv = c.loop-i.invariant in
+    let left = c.loop-i-test.false in
+    record {
+      over-is = none_left inv left;
+      area-is = sums-end inv.sums left;
+      gained-small = omega arith;
+      lost-small = omega arith;
+    }
