@@ -31,7 +31,7 @@ const DIRECTORY: usize = 3168;
 const TEXT: usize = 65536;
 
 // What an input text comes to.
-#[derive(Drop)]
+#[derive(Clone, Copy)]
 enum Drawn {
     // the text of its contour, of this many bytes
     Text(u64),

@@ -16,7 +16,7 @@ pub const SPARE: usize = 3;
 // The code of a call that passed with other counts than expected.
 const MISCOUNTED: u32 = 99;
 
-#[derive(Drop)]
+#[derive(Clone, Copy)]
 pub enum Build {
     Rings,
     Contour,
@@ -25,7 +25,7 @@ pub enum Build {
 }
 
 // Segments, peak of open lines, rings and points.
-#[derive(Drop)]
+#[derive(Clone, Copy)]
 pub struct Counts {
     pub segments: u32,
     pub peak: u32,
@@ -34,7 +34,7 @@ pub struct Counts {
 }
 
 // The words of each table.
-#[derive(Drop)]
+#[derive(Clone, Copy)]
 pub struct Room {
     pub open: usize,
     pub linked: usize,
@@ -44,7 +44,7 @@ pub struct Room {
 
 // The thresholds: the lower one is that of a build with one. Of the list 3, lower, upper a band is handed the part from one number to before another, and asked
 // for pair k of that. The rule is that of all of them.
-#[derive(Drop)]
+#[derive(Clone, Copy)]
 pub struct List {
     pub lower: f64,
     pub upper: f64,
@@ -55,13 +55,13 @@ pub struct List {
 }
 
 // How lines are drawn.
-#[derive(Drop)]
+#[derive(Clone, Copy)]
 pub struct Drawing {
     pub smooth: bool,
     pub placement: Placement,
 }
 
-#[derive(Drop)]
+#[derive(Clone, Copy)]
 pub struct Case {
     pub build: Build,
     pub list: List,

@@ -33,7 +33,7 @@ use std::num::wrapping_add_u32;
 use tables::{front, word};
 use text::{NUMBERS, TEXT, read_line};
 
-#[derive(Drop)]
+#[derive(Clone, Copy)]
 enum Part {
     Rings,
     Regions,

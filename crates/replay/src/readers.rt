@@ -8,7 +8,7 @@ use records::{record_set_faulty, record_text_length, write_record_text};
 use ringrecord::RingRecord;
 
 // What the three answered.
-#[derive(Drop)]
+#[derive(Clone, Copy)]
 pub struct Answers {
     pub faulty: bool,
     pub length: TextAnswer,

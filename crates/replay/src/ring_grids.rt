@@ -27,7 +27,7 @@ fn fill_rows(rows: &[u32], dx: usize, count: usize, values: &mut [f64; VALUES]) 
 
 // How far the rings of a line have been taken apart: those whose area has come, the words of points that have come, those that are left of the last ring, and
 // whether its area comes next.
-#[derive(Drop)]
+#[derive(Clone, Copy)]
 struct Taken {
     rings: u32,
     words: u32,

@@ -12,7 +12,7 @@ use scope::Level;
 pub const FULL: u32 = 9;
 
 // A call that was not refused for the table that was withheld, with that table's number.
-#[derive(Drop)]
+#[derive(Clone, Copy)]
 pub struct Answer {
     pub step: Step,
     pub withheld: u32,

@@ -11,7 +11,7 @@ use rows::Rows;
 use std::num::{wrapping_add_u32, wrapping_add_usize};
 
 // What the calls so far have come to: the state, how many rings they gave out, and whether they did as expected.
-#[derive(Drop)]
+#[derive(Clone, Copy)]
 struct Run {
     state: Rows,
     rings: u32,

@@ -8,7 +8,7 @@ pub const TEXT: usize = 2097152;
 pub const NUMBERS: usize = 4096;
 
 // How many numbers a line has, and where the next begins.
-#[derive(Drop)]
+#[derive(Clone, Copy)]
 pub struct Line {
     pub count: usize,
     pub next: usize,

@@ -20,7 +20,7 @@ const SOILED: RingRecord = RingRecord {
 };
 
 // What a build answered, and the array that it was lent the front of.
-#[derive(Drop)]
+#[derive(Clone, Copy)]
 pub struct Tried {
     pub answer: Built,
     pub records: [RingRecord; ROOM],

@@ -14,6 +14,7 @@ use Rattle.area.specs.Answers.{contains_answer, place_of}
 use Rattle.area.proofs.Walks.{Passed, Walked, passed-begin, passed-next, decided, none-decided, walked-begin, walked-held, walked_next, walked_end}
 use Rattle.area.proofs.Words.{sound, ring-sound, last_point, point_at}
 use Rattle.area.proofs.contains.Goals as goal
+use Rattle.area.proofs.contains.Goals.{After-loop-k, Else-faulty, In-vertices}
 
 -- what `contains` refuses of the outer ring is what `area` refuses
 refused-first : (outer : List ℕ) → eqb (length outer) 0 || faulty_words outer ≡ area_refused outer
@@ -21,24 +22,24 @@ unfolding area_refused
 refused-first outer = refl
 
 -- the words, seen from past the tests
-abbrev Outer : tie.Else2 invariant-loop decreases-loop invariant-vertices decreases-vertices → List ℕ
+abbrev Outer : Else-faulty → List ℕ
 Outer c = c.args.outer.now
 
-abbrev Tested : tie.Else2 invariant-loop decreases-loop invariant-vertices decreases-vertices → List ℕ
+abbrev Tested : Else-faulty → List ℕ
 Tested c = c.args.tested.now
 
 -- past the tests nothing is refused
-not-refused : (c : tie.Else2 invariant-loop decreases-loop invariant-vertices decreases-vertices) → contains_refused (Outer c) (Tested c) ≡ false
+not-refused : (c : Else-faulty) → contains_refused (Outer c) (Tested c) ≡ false
 unfolding contains_refused
 not-refused c =
     simp (refused-first, ← c.no_ring.ensures, c.if-no_ring.false, ← c.faulty.ensures, c.if-faulty.false)
 
 -- the turn of the outer loop, seen from past the inner loop
-abbrev At-vertex : tie.After-loop invariant-loop decreases-loop invariant-vertices decreases-vertices → tie.In-vertices invariant-loop decreases-loop invariant-vertices decreases-vertices
+abbrev At-vertex : After-loop-k → In-vertices
 At-vertex c = c
 
 -- past the pairs the vertex decides, by the sign
-sign-decides : (c : tie.After-loop invariant-loop decreases-loop invariant-vertices decreases-vertices) (inside : Bool) → c.loop-k.within ≡ inside →
+sign-decides : (c : After-loop-k) (inside : Bool) → c.loop-k.within ≡ inside →
     contains_answer (Outer (At-vertex c).before.before) (Tested (At-vertex c).before.before) ≡ place_of (signed inside)
 unfolding contains_answer point_at
 sign-decides c inside e =
@@ -83,12 +84,12 @@ loop-k-preserved c =
 
 pub returns-then-within : goal.returns-then-within
 unfolding place_of signed
-returns-then-within c = sym (sign-decides c true c.if-within.true)
+returns-then-within c = sym (sign-decides (goal.at.returns-then-within c).After-loop-k true c.if-within.true)
 
 pub returns-in-vertices : goal.returns-in-vertices
 unfolding place_of signed
-returns-in-vertices c = sym (sign-decides c false c.if-within.false)
+returns-in-vertices c = sym (sign-decides (goal.at.returns-in-vertices c).After-loop-k false c.if-within.false)
 
 pub returns : goal.returns
 unfolding contains_answer place_of
-returns c = simp (not-refused c, none-decided c.vertices.invariant c.vertices-test.false)
+returns c = simp (not-refused (goal.at.returns c).Else-faulty, none-decided c.vertices.invariant c.vertices-test.false)

@@ -1,0 +1,19 @@
+-- `bands::band_second_report` meets its contract: a band that does not fit is refused with nothing changed, and one that does is reported between its two
+-- levels. Assumes nothing.
+use Rattle.bands.proofs.Fit.{paired, pair-refused}
+use Rattle.bands.proofs.Reports.{fit_refused}
+use borrow.Author.Rules.{rules}
+use Rattle.bands.proofs.band_second_report.Goals as goal
+
+pub report_over-requires : goal.report_over-requires
+report_over-requires c =
+    (paired _ _ _ c.args.k c.args.thresholds.now c.args.rule _ _ _ c.in-Fits.is c.band_pair.ensures).grid
+
+pub returns-in-Refused : goal.returns-in-Refused
+returns-in-Refused c =
+    fit_refused _ _ (pair-refused _ _ _ c.args.k c.args.thresholds.now c.args.rule _ _ c.in-Refused.is c.band_pair.ensures) _ _ _ _ _ _
+
+pub returns-in-Fits : goal.returns-in-Fits
+returns-in-Fits c =
+    let facts = paired _ _ _ c.args.k c.args.thresholds.now c.args.rule _ _ _ c.in-Fits.is c.band_pair.ensures in
+    rw (facts.fits, ← facts.lower-is, ← facts.upper_is) c.report_over.ensures

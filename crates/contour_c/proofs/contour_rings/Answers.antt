@@ -1,0 +1,12 @@
+-- `contour_c::contour_rings` meets its contract: what `contour_rings` of `isoringbuilder` ensures and the arm's variant give the status and the output. Assumes nothing.
+use Rattle.contour_c.proofs.Answered.{rings-given, rings-kept}
+use borrow.Author.Rules.{rules}
+use Rattle.contour_c.proofs.contour_rings.Goals as goal
+
+pub returns-in-Rings : goal.returns-in-Rings
+returns-in-Rings c =
+    rw (← c.level_of-level.ensures) (rings-given _ _ _ c.in-Rings.is c.contour_rings.ensures)
+
+pub returns-in-Refused : goal.returns-in-Refused
+returns-in-Refused c =
+    rw (← c.level_of-level.ensures) (rings-kept _ _ _ _ c.in-Refused.is c.number.ensures c.contour_rings.ensures)

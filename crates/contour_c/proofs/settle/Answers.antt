@@ -1,0 +1,13 @@
+-- `contour_c::settle` meets its contract: in each arm of the `match` the answer's variant gives the status, the words of the state and the number of rings.
+-- Assumes nothing.
+use Rattle.contour_c.proofs.Called.{call-taken, call-refused}
+use borrow.Author.Rules.{rules}
+use Rattle.contour_c.proofs.settle.Goals as goal
+
+pub returns-in-Rings : goal.returns-in-Rings
+returns-in-Rings c =
+    call-taken c.args.state.now c.args.step.state c.args.rings.now _ c.in-Rings.is c.store_state.ensures
+
+pub returns-in-Refused : goal.returns-in-Refused
+returns-in-Refused c =
+    call-refused c.args.state.now c.args.step.state c.args.rings.now _ c.in-Refused.is c.number.ensures

@@ -1,0 +1,45 @@
+-- `contourbuilder::band_over` meets its contract: refused passes have changed nothing, and after passes that were done the outputs are what packing leaves, with
+-- the owners found, and both work tables are cleared. Assumes nothing.
+use mathlib.Core.Path.{refl, ◌∙◌}
+use native.Mathlib.Omega.{arith}
+use Rattle.grid.proofs.Laws.{a-grid-that-fits-is-sized}
+use Rattle.bands.proofs.Reports.{band-done, counts-fit}
+use Rattle.contourbuilder.proofs.Banded.{isobands-refused, band-ownable, isobands-done}
+use borrow.Author.Rules.{rules}
+use Rattle.contourbuilder.proofs.band_over.Goals as goal
+
+pub band_pass-requires : goal.band_pass-requires
+band_pass-requires c = (c.requires, refl)
+
+pub band_pack-answer-requires : goal.band_pack-answer-requires
+band_pack-answer-requires c =
+    let sized = a-grid-that-fits-is-sized _ _ _ c.requires in
+    let facts = band-done _ _ _ _ _ _ _ _ _ c.in-Done.is _ _ _ c.band_pass.ensures in
+    (sized, c.band_pass.ensures.lower-marked, omega (arith, (counts-fit _ _ _ _ _ _ _ sized facts).0))
+
+pub own_rings-requires : goal.own_rings-requires
+own_rings-requires c =
+    let facts = band-done _ _ _ _ _ _ _ _ _ c.in-Done.is _ _ _ c.band_pass.ensures in
+    band-ownable _ _ _ _ _ _ _ (a-grid-that-fits-is-sized _ _ _ c.requires) facts _ _ _ _ _ _ _ c.band_pack-answer.ensures _ c.band_point_words-filled.ensures _ _ c.link_words-words.ensures c.larger.ensures
+
+pub open_words-requires : goal.open_words-requires
+open_words-requires c =
+    (a-grid-that-fits-is-sized _ _ _ c.requires).columns
+
+pub returns-in-Refused : goal.returns-in-Refused
+returns-in-Refused c =
+    isobands-refused _ _ _ _ _ _ _ _ _ c.in-Refused.is _ _ _ c.band_pass.ensures _ _
+
+pub shape_of-lines-in-Done : goal.shape_of-lines-in-Done
+shape_of-lines-in-Done c =
+    c.clear.auto.0 ∙ c.band_pack-answer.auto.1.1.1.1.1.1.0 ∙ c.band_pass.auto.1.1.1.1.1.1.0
+
+pub shape_of-links-in-Done : goal.shape_of-links-in-Done
+shape_of-links-in-Done c =
+    c.clear-in-Done.auto.0 ∙ c.own_rings.auto.1.1.1.0 ∙ c.band_pack-answer.auto.1.1.1.1.1.1.1.0 ∙ c.band_pass.auto.1.1.1.1.1.1.1.0
+
+pub returns-in-Done : goal.returns-in-Done
+returns-in-Done c =
+    let facts = band-done _ _ _ _ _ _ _ _ _ c.in-Done.is _ _ _ c.band_pass.ensures in
+    isobands-done _ _ _ _ _ _ _ (a-grid-that-fits-is-sized _ _ _ c.requires) facts _ _ _ _ _ _ _ c.band_pack-answer.ensures _ c.band_point_words-filled.ensures _ _ c.link_words-words.ensures c.larger.ensures _ _
+    c.own_rings.ensures _ _ (rw (← c.open_words.ensures) c.clear.ensures) c.clear-in-Done.ensures

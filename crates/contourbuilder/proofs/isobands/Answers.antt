@@ -1,0 +1,19 @@
+-- `contourbuilder::isobands` meets its contract: a band that does not fit is refused with nothing changed, and one that does is built between its two levels.
+-- Assumes nothing.
+use Rattle.bands.proofs.Fit.{paired, pair-refused}
+use Rattle.contourbuilder.proofs.Banded.{isobands-unfit}
+use borrow.Author.Rules.{rules}
+use Rattle.contourbuilder.proofs.isobands.Goals as goal
+
+pub band_over-requires : goal.band_over-requires
+band_over-requires c =
+    (paired _ _ _ c.args.k c.args.thresholds.now c.args.rule _ _ _ c.in-Fits.is c.band_pair.ensures).grid
+
+pub returns-in-Refused : goal.returns-in-Refused
+returns-in-Refused c =
+    isobands-unfit _ _ (pair-refused _ _ _ c.args.k c.args.thresholds.now c.args.rule _ _ c.in-Refused.is c.band_pair.ensures) _ _ _ _ _ _ _ _
+
+pub returns-in-Fits : goal.returns-in-Fits
+returns-in-Fits c =
+    let facts = paired _ _ _ c.args.k c.args.thresholds.now c.args.rule _ _ _ c.in-Fits.is c.band_pair.ensures in
+    rw (facts.fits, ← facts.lower-is, ← facts.upper_is) c.band_over.ensures

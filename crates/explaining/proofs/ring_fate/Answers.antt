@@ -1,0 +1,40 @@
+-- `explaining::ring_fate` meets its contract: each test is the definition's, and what an answer shows follows from it. Assumes nothing.
+use mathlib.Core.Path.{◌≡◌, sym, ◌∙◌}
+use mathlib.Core.Bool.{false}
+use borrow.Author.Rules.{rules}
+use borrow.Author.Tests.{lt-ltb, le-ltb}
+use Rattle.scope.specs.GeoJson.{ring_set_refused}
+use Rattle.explaining.specs.Fates.{fate_answer}
+use Rattle.explaining.proofs.Owners.{fate-of, fate-found}
+use Rattle.explaining.proofs.ring_fate.Goals as goal
+use Rattle.explaining.proofs.ring_fate.Goals.{Else-rings-ring}
+
+-- past the tests the set passes, and the ring is there
+passes : (c : Else-rings-ring) → ring_set_refused c.args.points.now c.args.directory.now c.args.rings ≡ false
+passes c = sym c.ring_set_faulty.ensures ∙ c.if-ring_set_faulty.false
+
+pub returns-then-ring_set_faulty : goal.returns-then-ring_set_faulty
+unfolding fate_answer
+returns-then-ring_set_faulty c = fate-found _ _ _ _ (rw (sym c.ring_set_faulty.ensures ∙ c.if-ring_set_faulty.true))
+
+pub returns-then-rings-ring : goal.returns-then-rings-ring
+unfolding fate_answer
+returns-then-rings-ring c = fate-found _ _ _ _ (rw (sym c.ring_set_faulty.ensures ∙ c.if-ring_set_faulty.false, le-ltb _ _ c.if-rings-ring.true))
+
+pub polygon_at-requires : goal.polygon_at-requires
+polygon_at-requires c = record { passes = passes (goal.at.polygon_at-requires c).Else-rings-ring; there = c.if-rings-ring.false }
+
+pub returns-then-polygon_at : goal.returns-then-polygon_at
+unfolding fate_answer
+returns-then-polygon_at c =
+    fate-found _ _ _ _ (rw (passes (goal.at.returns-then-polygon_at c).Else-rings-ring, lt-ltb _ _ c.if-rings-ring.false, fate-of _ _ _ _ c.if-rings-ring.false, sym c.polygon_at.ensures ∙ c.if-polygon_at.true))
+
+pub hole_told-requires : goal.hole_told-requires
+hole_told-requires c =
+    record { passes = passes (goal.at.hole_told-requires c).Else-rings-ring; there = c.if-rings-ring.false }
+
+pub returns : goal.returns
+unfolding fate_answer
+returns c =
+    fate-found _ _ _ _
+    (rw (passes (goal.at.returns c).Else-rings-ring, lt-ltb _ _ c.if-rings-ring.false, fate-of _ _ _ _ c.if-rings-ring.false, sym c.polygon_at.ensures ∙ c.if-polygon_at.false, c.hole_told.ensures))

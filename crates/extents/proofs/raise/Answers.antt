@@ -1,0 +1,21 @@
+-- `extents::raise` meets its contract: the two fillings are the ladder's two levels, the second behind the first. Assumes nothing.
+use native.Mathlib.Omega.{arith}
+use Rattle.extents.proofs.Raising.{raised-over}
+use borrow.Author.Rules.{rules}
+use Rattle.extents.proofs.raise.Goals as goal
+
+pub returns : goal.returns
+returns c =
+    let args = c.args in
+    raised-over
+    args.items
+    args.count
+    args.free
+    c.fewer-group_count.result
+    c.fewer-block_count.result
+    (omega arith)
+    c.fewer-group_count.ensures.0
+    c.fewer-block_count.ensures.0
+    (omega arith)
+    c.fill_groups.ensures
+    c.fill_groups-2.ensures

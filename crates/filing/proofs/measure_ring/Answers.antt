@@ -1,0 +1,68 @@
+-- `filing::measure_ring` meets its contract: the rank leads to a record whose ring is there, and the extent stands where it is stored. Assumes nothing.
+use mathlib.Core.Path.{◌∙◌}
+use Prim.Native.Nat.{◌+◌, ◌*◌, ◌≤◌}
+use lib.ListN.{length}
+use native.Mathlib.Omega.{arith}
+use Rattle.extents.specs.Records.{record_first, record_count, record_ring, rank_of}
+use Rattle.extents.proofs.Stores.{put-length, put_other, put-read}
+use Rattle.filing.proofs.Measures.{record-there, ring-there}
+use borrow.Author.Rules.{rules}
+use Rattle.filing.proofs.measure_ring.Goals as goal
+
+pub overflow_cast-r : goal.overflow_cast-r
+overflow_cast-r c = omega (arith, c.slice_known-2-1.given (2 * c.args.n + c.args.i))
+
+pub overflow_mul-first : goal.overflow_mul-first
+unfolding rank_of
+overflow_mul-first c = omega (arith, record-there c.requires)
+
+pub offset_bounds-directory-r : goal.offset_bounds-directory-r
+unfolding rank_of
+offset_bounds-directory-r c = omega (arith, record-there c.requires)
+
+pub bounds-directory-r : goal.bounds-directory-r
+unfolding rank_of
+bounds-directory-r c = omega (arith, record-there c.requires)
+
+pub overflow_cast-first : goal.overflow_cast-first
+unfolding rank_of
+overflow_cast-first c = omega (arith, c.shared_slice_known-3-1.given (4 * rank_of c.args.table.now c.args.n c.args.i))
+
+pub overflow_mul-count : goal.overflow_mul-count
+unfolding rank_of
+overflow_mul-count c = omega (arith, record-there c.requires)
+
+pub overflow_add-count : goal.overflow_add-count
+unfolding rank_of
+overflow_add-count c = omega (arith, record-there c.requires)
+
+pub offset_bounds-directory-r-2 : goal.offset_bounds-directory-r-2
+unfolding rank_of
+offset_bounds-directory-r-2 c = omega (arith, record-there c.requires)
+
+pub bounds-directory-r-2 : goal.bounds-directory-r-2
+unfolding rank_of
+bounds-directory-r-2 c = omega (arith, record-there c.requires)
+
+pub overflow_cast-count : goal.overflow_cast-count
+unfolding rank_of
+overflow_cast-count c = omega (arith, c.shared_slice_known-4-1.given (4 * rank_of c.args.table.now c.args.n c.args.i + 1))
+
+pub extent_of-extent-requires : goal.extent_of-extent-requires
+unfolding rank_of record_first record_count
+extent_of-extent-requires c = ring-there c.requires
+
+pub returns : goal.returns
+unfolding rank_of record_ring record_first record_count
+returns c =
+    let table = c.args.table.now in
+    let at = 2 * c.args.i in
+    let extent = c.extent_of-extent.result in
+    let there : at + 2 ≤ length table = omega arith in
+    record {
+      as_long = rw c.put_extent.ensures (put-length table at extent);
+      extent =
+          rw c.put_extent.ensures
+          (put-read table at extent (search rules) (search rules) there ∙ c.extent_of-extent.ensures);
+      others = λ k p q. rw c.put_extent.ensures (put_other table at extent k p q);
+    }

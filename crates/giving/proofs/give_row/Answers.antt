@@ -1,0 +1,82 @@
+-- `giving::give_row` meets its contract. The loop's invariant: the tables and the counts are those after the cells of the words so far, the samples on the left
+-- of the next cell are known, and the tables keep their lengths. The measure is the number of words left. Assumes nothing.
+use mathlib.Core.Path.{◌≡◌, refl, ◌∙◌}
+use Prim.Native.Nat.{◌+◌, ◌*◌, ◌-◌, ◌≤◌}
+use native.Mathlib.Omega.{arith}
+use lib.ListN.{length}
+use borrow.Author.Rules.{rules}
+use Rattle.scope.specs.Limits.{side_limit}
+use Rattle.sweep.specs.Sweep.{between, swept}
+use Rattle.sweep.proofs.Rows.{Beside, beside-begins, beside-next, pane-between}
+use Rattle.sweep.proofs.Steps.{row-begun, word_more, row-swept}
+use Rattle.giving.specs.Giving.{cell_given, row_given}
+use Rattle.giving.specs.Values.{given_of}
+use Rattle.giving.proofs.give_row.Goals as goal
+
+pub loop-w-init : goal.loop-w-init
+loop-w-init c = (beside-begins _ _, row-begun _ _, omega arith, refl, refl, refl, refl)
+
+pub overflow_mul-w : goal.overflow_mul-w
+unfolding side_limit
+overflow_mul-w c = omega (arith, c.requires.columns)
+
+pub row_word-upper_word-requires : goal.row_word-upper_word-requires
+unfolding side_limit
+row_word-upper_word-requires c = omega (arith, c.requires.columns)
+
+pub row_word-lower_word-requires : goal.row_word-lower_word-requires
+row_word-lower_word-requires c = row-word-requires c κs
+
+pub overflow_mul-w-in-loop-w : goal.overflow_mul-w-in-loop-w
+unfolding side_limit
+overflow_mul-w-in-loop-w c = omega arith
+
+pub overflow_cast-w : goal.overflow_cast-w
+unfolding side_limit
+overflow_cast-w c = omega arith
+
+pub give_changes-next-requires : goal.give_changes-next-requires
+give_changes-next-requires c =
+    let upper-word = c.row_word-upper_word in
+    let lower_word = c.row_word-lower_word in (
+      record { columns = c.requires.columns; column = omega arith; row = c.requires.row },
+      (
+        pane-between _ _ c.loop-w.invariant.0 upper-word.ensures lower_word.ensures (omega (arith, upper-word.type-inv)) (omega (arith, lower_word.type-inv))
+            c.pane_of-pane.ensures,
+        c.changes_in-changes.ensures,
+      ),
+    )
+
+pub overflow_add-w : goal.overflow_add-w
+unfolding side_limit
+overflow_add-w c =
+    omega (arith, c.loop-w-test.true, c.requires.columns)
+
+pub loop-w-preserved : goal.loop-w-preserved
+loop-w-preserved c =
+    let so_far = c.loop-w.invariant in
+    let kept = c.give_changes-next.auto.1.1.1.1.1.1.1 in (
+      beside-next _ _ _ c.row_word-upper_word.ensures c.row_word-lower_word.ensures c.bit_at-upper_left.ensures c.bit_at-lower_left.ensures,
+      word_more _ _ _ so_far.1 c.give_changes-next.ensures,
+      omega (arith, c.loop-w-test.true),
+      kept.0 ∙ so_far.3,
+      kept.1.0 ∙ so_far.4,
+      kept.1.1.0 ∙ so_far.5,
+      kept.1.1.1.0 ∙ so_far.6,
+    )
+
+pub shape_of-lines : goal.shape_of-lines
+shape_of-lines c = c.loop-w.invariant.3
+
+pub shape_of-links : goal.shape_of-links
+shape_of-links c = c.loop-w.invariant.4
+
+pub shape_of-points : goal.shape_of-points
+shape_of-points c = c.loop-w.invariant.5
+
+pub shape_of-directory : goal.shape_of-directory
+shape_of-directory c = c.loop-w.invariant.6
+
+pub returns : goal.returns
+unfolding row_given
+returns c = row-swept _ _ _ _ c.loop-w.invariant.1 (omega arith) c.loop-w.invariant.2

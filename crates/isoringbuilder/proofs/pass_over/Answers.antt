@@ -1,0 +1,43 @@
+-- `isoringbuilder::pass_over` meets its contract: the scan's counts say what both tables need, and its marks which tiles the stitching pass looks at.
+-- Assumes nothing.
+use mathlib.Core.Path.{refl, ◌∙◌, ap}
+use native.Mathlib.Omega.{arith}
+use Rattle.scope.specs.Room.{open_words, link_words}
+use Rattle.scan.specs.Scanned.{scanned}
+use Rattle.scan.specs.declared.Counts.{Counts}
+use Rattle.grid.proofs.Laws.{a-grid-that-fits-is-sized}
+use Rattle.isoringbuilder.proofs.Passing.{lines-short, links-short, done}
+use borrow.Author.Rules.{rules}
+use Rattle.isoringbuilder.proofs.pass_over.Goals as goal
+
+pub scan-counts-requires : goal.scan-counts-requires
+scan-counts-requires c = (a-grid-that-fits-is-sized _ _ _ c.requires, refl)
+
+pub open_words-requires : goal.open_words-requires
+open_words-requires c = (a-grid-that-fits-is-sized _ _ _ c.requires).columns
+
+pub returns-then-lines-open_words : goal.returns-then-lines-open_words
+unfolding scanned
+returns-then-lines-open_words c =
+    let open-need = c.open_words.ensures ∙ ap (λ (k : Counts). open_words c.args.dx k.peak) c.scan-counts.ensures.0 in
+    lines-short _ _ _ _ _ _ c.requires (omega (arith, open-need))
+
+pub returns-then-links-link_words : goal.returns-then-links-link_words
+unfolding scanned
+returns-then-links-link_words c =
+    let open-need = c.open_words.ensures ∙ ap (λ (k : Counts). open_words c.args.dx k.peak) c.scan-counts.ensures.0 in
+    let link-need = c.link_words.ensures ∙ ap (λ (k : Counts). link_words k.segments) c.scan-counts.ensures.0 in
+    links-short _ _ _ _ _ _ c.requires (omega (arith, open-need)) (omega (arith, link-need))
+
+pub stitch-progress-requires : goal.stitch-progress-requires
+stitch-progress-requires c =
+    (a-grid-that-fits-is-sized _ _ _ c.requires, c.scan-counts.ensures.1)
+
+pub returns : goal.returns
+unfolding scanned
+returns c =
+    let open-need = c.open_words.ensures ∙ ap (λ (k : Counts). open_words c.args.dx k.peak) c.scan-counts.ensures.0 in
+    let link-need = c.link_words.ensures ∙ ap (λ (k : Counts). link_words k.segments) c.scan-counts.ensures.0 in
+    rw c.scan-counts.ensures.0
+    (done c.args.values.now c.args.level c.args.dx c.args.dy c.args.lines.now c.args.links.now c.requires
+    (omega (arith, open-need, c.if-lines-open_words.false)) (omega (arith, link-need, c.if-links-link_words.false)) _ _ _ c.stitch-progress.ensures)

@@ -1,0 +1,16 @@
+-- `lines::prepend` meets its contract: what was read and what was stored, put in for each other from the last store back to the entry, is the
+-- definition. Assumes nothing.
+use borrow.Author.Rules.{rules}
+use Rattle.machine.specs.Machine.{prepended}
+use Rattle.lines.proofs.prepend.Goals as goal
+
+pub returns : goal.returns
+unfolding prepended
+returns c =
+    rw (
+      c.put.ensures,
+      c.put_slot.ensures,
+      c.word_of.ensures,
+      c.put_link.ensures,
+      c.slot_at-line.ensures,
+    )

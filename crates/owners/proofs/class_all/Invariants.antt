@@ -1,0 +1,13 @@
+-- `owners::class_all` meets its contract. The loop's invariant is `ClassedTo`: the records of the numbers so far have their classes, and every other word is as it
+-- was. The measure is how many numbers are left. Assumes nothing.
+use Prim.Native.Nat.{◌-◌}
+use native.Mathlib.Omega.{arith}
+use borrow.Author.Rules.{rules}
+use Rattle.owners.proofs.Words.{ClassedTo, stored-begin, classed-filed, classed-next, classed-end}
+use Rattle.owners.proofs.class_all.Given as goal
+
+abbrev pub invariant-loop-i : goal.invariant-loop-i
+invariant-loop-i l = ClassedTo l.points l.initial.directory l.table l.n l.directory l.i
+
+abbrev pub decreases-loop-i : goal.decreases-loop-i
+decreases-loop-i l = l.n - l.i

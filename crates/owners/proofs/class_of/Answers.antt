@@ -1,0 +1,13 @@
+-- `owners::class_of` meets its contract: an even number of takers is a polygon, an odd one an interior. Assumes nothing.
+use borrow.Author.Rules.{rules}
+use Rattle.owners.specs.Owned.{class_in}
+use Rattle.owners.specs.Searched.{evenly_taken}
+use Rattle.owners.proofs.class_of.Goals as goal
+
+pub returns-then-even_takers : goal.returns-then-even_takers
+unfolding class_in evenly_taken
+returns-then-even_takers c = rw (← c.even_takers.ensures, c.if-even_takers.true)
+
+pub returns : goal.returns
+unfolding class_in evenly_taken
+returns c = rw (← c.even_takers.ensures, c.if-even_takers.false)

@@ -1,0 +1,8 @@
+-- `rowstate::store_state` meets its contract: each number goes to its word. Assumes nothing.
+use Rattle.rowstate.proofs.States.{state-stored}
+use borrow.Author.Rules.{rules}
+use Rattle.rowstate.proofs.store_state.Goals as goal
+
+pub returns : goal.returns
+returns c =
+    state-stored c.args.t1 c.args.words.now _ _ _ _ c.bits_of-bits.ensures c.low_half_lem.ensures c.high_half_lem.ensures c.rule_number.ensures c.store_samples.ensures

@@ -1,0 +1,17 @@
+-- `taking::along` meets its contract. The loop's invariant is `Along`: the pairs that are not passed answer as all do. The measure is what is left of them.
+-- Assumes nothing.
+use mathlib.Core.Path.{refl, sym, ap, ◌∙◌}
+use mathlib.Core.Bool.{xor}
+use Prim.Native.Nat.{◌-◌}
+use native.Mathlib.Omega.{arith}
+use borrow.Author.Rules.{rules}
+use Rattle.scope.specs.Containment.{signed}
+use Rattle.taking.specs.Places.{place_of}
+use Rattle.taking.proofs.Walks.{Along, along-held, along-next, along-beside, along-end}
+use Rattle.taking.proofs.along.Given as goal
+
+abbrev pub invariant-loop-k : goal.invariant-loop-k
+invariant-loop-k l = Along l.points l.from l.to (record { x = l.x; y = l.y }) l.inside l.ay l.within l.k
+
+abbrev pub decreases-loop-k : goal.decreases-loop-k
+decreases-loop-k l = l.to - l.k

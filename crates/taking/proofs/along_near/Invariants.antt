@@ -1,0 +1,19 @@
+-- `taking::along_near` meets its contract. The loop's invariant is `Gone`: the pairs that are neither passed over nor walked answer as all do. The measure
+-- is what is left of them. Assumes nothing.
+use mathlib.Core.Path.{refl, sym, ap, subst, ◌∙◌}
+use mathlib.Core.Bool.{true, false}
+use Prim.Native.Nat.{◌-◌, ◌/◌, ◌+◌}
+use native.Mathlib.Omega.{arith}
+use borrow.Author.Rules.{rules}
+use Rattle.scope.specs.Containment.{outside, boundary, inside, signed}
+use Rattle.extents.specs.Ladders.{Chunked}
+use Rattle.taking.specs.Places.{place_of}
+use Rattle.taking.proofs.Walks.{placed}
+use Rattle.taking.proofs.Passing.{first-chunked, Gone, gone_held, gone-next, gone-end}
+use Rattle.taking.proofs.along_near.Given as goal
+
+abbrev pub invariant-loop-k : goal.invariant-loop-k
+invariant-loop-k l = Gone l.points l.table l.ladder l.from l.last (record { x = l.x; y = l.y }) l.inside l.within l.k
+
+abbrev pub decreases-loop-k : goal.decreases-loop-k
+decreases-loop-k l = l.last - l.k

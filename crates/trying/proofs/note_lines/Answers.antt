@@ -1,0 +1,43 @@
+-- `trying::note_lines` meets its contract. The loop's invariant: the lines of the slots so far are noted, and the table keeps its length. The measure is how many
+-- are left. Assumes nothing.
+use mathlib.Core.Path.{◌≡◌, refl, sym, ◌∙◌, ap}
+use Prim.Native.Nat.{◌-◌, ◌≤◌}
+use native.Mathlib.Omega.{arith}
+use lib.ListN.{length}
+use borrow.Author.Rules.{rules}
+use Rattle.scope.specs.Limits.{side_limit}
+use Rattle.trying.specs.Notes.{slots_noted, frontier_noted}
+use Rattle.trying.proofs.Slots.{column-word-small, none-noted, line-noted}
+use Rattle.trying.proofs.note_lines.Goals as goal
+
+pub overflow_add-dx : goal.overflow_add-dx
+unfolding side_limit
+overflow_add-dx c = omega arith
+
+pub loop-i-init : goal.loop-i-init
+loop-i-init c = (none-noted _ _ _, omega arith, refl)
+
+pub overflow_cast-start : goal.overflow_cast-start
+overflow_cast-start c = omega (arith, column-word-small _ _ c.requires c.column_word-start.ensures)
+
+pub overflow_cast-end : goal.overflow_cast-end
+overflow_cast-end c = omega (arith, column-word-small _ _ c.requires c.column_word-end.ensures)
+
+pub loop-i-preserved : goal.loop-i-preserved
+loop-i-preserved c =
+    let so_far = c.loop-i.invariant in (
+      line-noted _ _ _ _ so_far.0 c.slot_at-line.ensures c.link_point.ensures c.column_word-start.ensures c.column_word-end.ensures
+          c.note.ensures,
+      omega arith,
+      c.note.auto.0 ∙ so_far.2,
+    )
+
+pub shape_of-lines : goal.shape_of-lines
+shape_of-lines c = c.loop-i.invariant.2 ∙ c.clear.auto.0
+
+pub returns : goal.returns
+unfolding frontier_noted
+returns c =
+    let so_far = c.loop-i.invariant in
+    let all : c.loop-i.i ≡ c.args.count = omega arith in
+    so_far.0 ∙ rw (all, c.clear.ensures)

@@ -1,0 +1,69 @@
+-- `trying::try_changes` meets its contract. The loop's invariant: what is tried is what the cells that are seen come to, the bits of the others are left, and
+-- the table keeps its length. The measure is how many are left. Assumes nothing.
+use mathlib.Core.Path.{◌≡◌, refl, ◌∙◌, subst}
+use Prim.Native.Nat.{◌-◌}
+use native.Mathlib.Omega.{arith}
+use lib.ListN.{length}
+use Rattle.scope.specs.Limits.{side_limit}
+use Rattle.words.proofs.Laws.{number-shown}
+use Rattle.scan.proofs.Rows.{Unseen, unseen-begin, unseen-next}
+use Rattle.sweep.specs.Sweep.{between, swept}
+use Rattle.sweep.proofs.Steps.{word-begun, active-swept, word-swept}
+use Rattle.trying.specs.Trying.{cell_tried}
+use Rattle.trying.specs.Values.{tried_of}
+use Rattle.trying.proofs.ByNumber.{still, cell-of}
+use Rattle.trying.proofs.try_changes.Goals as goal
+
+pub loop-rest-init : goal.loop-rest-init
+loop-rest-init c =
+    (unseen-begin _ _ _ c.requires.1.0 c.requires.1.1, word-begun _ _ _, refl)
+
+pub overflow_add-j : goal.overflow_add-j
+overflow_add-j c = omega (arith, (unseen-next _ _ _ c.loop-rest.invariant.0 (λ z. omega arith)).in-word)
+
+pub number_in-number-requires : goal.number_in-number-requires
+number_in-number-requires c = (unseen-next _ _ _ c.loop-rest.invariant.0 (λ z. omega arith)).in-word
+
+pub overflow_add-c : goal.overflow_add-c
+unfolding side_limit
+overflow_add-c c =
+    omega (arith, c.requires.0.0, c.requires.0.1, (unseen-next _ _ _ c.loop-rest.invariant.0 (λ z. omega arith)).in-word)
+
+pub try_cell-next-requires : goal.try_cell-next-requires
+unfolding side_limit
+try_cell-next-requires c =
+    (c.requires.0.0, omega (arith, c.requires.0.0, c.requires.0.1, (unseen-next _ _ _ c.loop-rest.invariant.0 (λ z. omega arith)).in-word))
+
+pub overflow_cast-rest : goal.overflow_cast-rest
+overflow_cast-rest c =
+    omega (arith, (unseen-next _ _ _ c.loop-rest.invariant.0 (λ z. omega arith)).in-word)
+
+pub overflow_shr-rest : goal.overflow_shr-rest
+overflow_shr-rest c =
+    omega (arith, (unseen-next _ _ _ c.loop-rest.invariant.0 (λ z. omega arith)).in-word)
+
+pub overflow_add-at : goal.overflow_add-at
+overflow_add-at c =
+    omega (arith, (unseen-next _ _ _ c.loop-rest.invariant.0 (λ z. omega arith)).in-word)
+
+pub loop-rest-smaller : goal.loop-rest-smaller
+loop-rest-smaller c =
+    omega (arith, (unseen-next _ _ _ c.loop-rest.invariant.0 (λ z. omega arith)).in-word)
+
+pub loop-rest-preserved : goal.loop-rest-preserved
+loop-rest-preserved c =
+    let so_far = c.loop-rest.invariant in
+    let next = unseen-next _ _ _ so_far.0 (λ z. omega arith) in (
+      next.unseen-then,
+      active-swept _ _ _ (still _ _) _ next so_far.1
+          (c.try_cell-next.ensures ∙ cell-of _ _ _ _ (c.number_in-number.ensures ∙ number-shown _ _ _ c.requires.1.0 next.in-word)),
+      c.try_cell-next.auto.0 ∙ so_far.2,
+    )
+
+pub shape_of-words : goal.shape_of-words
+shape_of-words c = c.loop-rest.invariant.2
+
+pub returns : goal.returns
+returns c =
+    let none : c.loop-rest.rest ≡ 0 = omega arith in
+    word-swept _ _ _ (still _ _) _ (subst (Unseen _ _ _ _) none c.loop-rest.invariant.0) c.loop-rest.invariant.1

@@ -1,0 +1,6 @@
+-- `trying::with_segment` meets its contract: one count grows. Assumes nothing.
+use borrow.Author.Rules.{rules}
+use Rattle.trying.proofs.with_segment.Goals as goal
+
+pub returns : goal.returns
+returns c = rw c.word_of.ensures

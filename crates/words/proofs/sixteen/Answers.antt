@@ -1,0 +1,22 @@
+-- `words::sixteen` meets its contract: two halves of eight samples are the whole, and fit a word. Assumes nothing.
+use Prim.Native.Nat.{◌+◌}
+use native.Mathlib.Omega.{arith}
+use borrow.Author.Rules.{rules}
+use Rattle.scope.specs.Terrain.{above_at}
+use Rattle.cells.specs.Rules.{level_of}
+use Rattle.words.proofs.Packing.{halves, half-small}
+use Rattle.words.proofs.sixteen.Goals as goal
+
+pub overflow_mul-result : goal.overflow_mul-result
+overflow_mul-result c =
+    omega (arith, half-small (above_at (level_of c.args.threshold c.args.number)) c.args.values.now (c.args.i + 8) 8 c.eight-2.ensures)
+
+pub overflow_add-result : goal.overflow_add-result
+overflow_add-result c =
+    let rule = above_at (level_of c.args.threshold c.args.number) in
+    let values = c.args.values.now in
+    omega (arith, half-small rule values c.args.i 8 c.eight.ensures, half-small rule values (c.args.i + 8) 8 c.eight-2.ensures)
+
+pub returns : goal.returns
+returns c =
+    halves (above_at (level_of c.args.threshold c.args.number)) c.args.values.now c.args.i 8 c.eight.ensures c.eight-2.ensures
