@@ -10,11 +10,11 @@ use Rattle.drawing.proofs.draw_cell.Goals as goal
 
 pub draw_stroke-requires-in-5 : goal.draw_stroke-requires-in-5
 draw_stroke-requires-in-5 c =
-    a-second-link-fits _ _ (ap (λ (run : Run). run.next) c.draw_stroke-one.ensures) c.requires.1
+    a-second-link-fits _ _ (ap (λ (run : Run). run.next) c.draw_stroke-one.ensures) c.requires.next_bound
 
 pub draw_stroke-requires-in-10 : goal.draw_stroke-requires-in-10
 draw_stroke-requires-in-10 c =
-    a-second-link-fits _ _ (ap (λ (run : Run). run.next) c.draw_stroke-one-in-10.ensures) c.requires.1
+    a-second-link-fits _ _ (ap (λ (run : Run). run.next) c.draw_stroke-one-in-10.ensures) c.requires.next_bound
 
 pub returns-in-1 : goal.returns-in-1
 unfolding case_table drawn stroke_at

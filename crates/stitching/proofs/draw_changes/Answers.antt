@@ -37,12 +37,12 @@ so_far : (c : At-loop-rest)
     → Seen (named c) c.args.dx (begun c) c.args.r c.args.c c.loop-rest.at c.loop-rest.rest
     (run_of c.loop-rest.lines c.loop-rest.links c.loop-rest.run)
 so_far c =
-    c.loop-rest.invariant.0 c.args.level c.requires.1.1.0
+    c.loop-rest.invariant.0 c.args.level c.requires.shows
 
 pub loop-rest-init : goal.loop-rest-init
 unfolding cells_drawn
 loop-rest-init c =
-    (λ level shows. (unseen-begin _ _ _ shows c.requires.1.1.1.0, refl), search rules, search rules)
+    (λ level shows. (unseen-begin _ _ _ shows c.requires.changes_value, refl), search rules, search rules)
 
 pub overflow_add-j : goal.overflow_add-j
 overflow_add-j c = omega (arith, (unseen-next _ _ _ (so_far (goal.at.overflow_add-j c).At-loop-rest).0 (λ z. omega arith)).in-word)
@@ -58,13 +58,13 @@ pub overflow_cast-c : goal.overflow_cast-c
 unfolding side_limit
 overflow_cast-c c =
     let next = unseen-next _ _ _ (so_far (goal.at.overflow_cast-c c).At-loop-rest).0 (λ z. omega arith) in
-    omega (arith, c.requires.0.columns, active-inside _ _ _ (terrain-outside _ _ _ _) c.requires.1.1.0 next (so_far (goal.at.overflow_cast-c c).At-loop-rest).1 c.number_in-number.ensures)
+    omega (arith, c.requires.sized.columns, active-inside _ _ _ (terrain-outside _ _ _ _) c.requires.shows next (so_far (goal.at.overflow_cast-c c).At-loop-rest).1 c.number_in-number.ensures)
 
 pub overflow_add-c : goal.overflow_add-c
 unfolding side_limit
 overflow_add-c c =
     let next = unseen-next _ _ _ (so_far (goal.at.overflow_add-c c).At-loop-rest).0 (λ z. omega arith) in
-    omega (arith, c.requires.0.columns, active-inside _ _ _ (terrain-outside _ _ _ _) c.requires.1.1.0 next (so_far (goal.at.overflow_add-c c).At-loop-rest).1 c.number_in-number.ensures)
+    omega (arith, c.requires.sized.columns, active-inside _ _ _ (terrain-outside _ _ _ _) c.requires.shows next (so_far (goal.at.overflow_add-c c).At-loop-rest).1 c.number_in-number.ensures)
 
 pub overflow_cast-r : goal.overflow_cast-r
 unfolding side_limit
@@ -72,14 +72,11 @@ overflow_cast-r c = omega arith
 
 pub draw_cell-run-requires : goal.draw_cell-run-requires
 draw_cell-run-requires c =
-    let next = unseen-next _ _ _ (so_far (goal.at.draw_cell-run-requires c).At-loop-rest).0 (λ z. omega arith) in (
-      record {
-        columns = c.requires.0.columns;
-        column = active-inside _ _ _ (terrain-outside _ _ _ _) c.requires.1.1.0 next (so_far (goal.at.draw_cell-run-requires c).At-loop-rest).1 c.number_in-number.ensures;
+    let next = unseen-next _ _ _ (so_far (goal.at.draw_cell-run-requires c).At-loop-rest).0 (λ z. omega arith) in record { within = record {
+        columns = c.requires.sized.columns;
+        column = active-inside _ _ _ (terrain-outside _ _ _ _) c.requires.shows next (so_far (goal.at.draw_cell-run-requires c).At-loop-rest).1 c.number_in-number.ensures;
         row = omega arith;
-      },
-      omega (arith, next.in-word, c.requires.1.1.1.1, word-few _ _ _ _ _ _ (so_far (goal.at.draw_cell-run-requires c).At-loop-rest).1),
-    )
+      }; next_bound = omega (arith, next.in-word, c.requires.next_bound, word-few _ _ _ _ _ _ (so_far (goal.at.draw_cell-run-requires c).At-loop-rest).1) }
 
 pub overflow_cast-rest : goal.overflow_cast-rest
 overflow_cast-rest c =

@@ -23,7 +23,7 @@ loop-r-init c = (omega arith, run-begins _ _ _, no-words-above _ (terrain-outsid
 pub stitch_row-run-requires : goal.stitch_row-run-requires
 stitch_row-run-requires c =
     let so_far = c.loop-r.invariant in
-    (c.requires.0, (omega arith, (so_far.2, (c.requires.1, a-row-more-fits _ _ _ _ _ so_far.1 c.requires.0.columns (omega (arith, c.requires.0.rows))))))
+    record { sized = c.requires.sized; r_le_dy = omega arith; kept = so_far.2; marked = c.requires.marked; dx_bound = a-row-more-fits _ _ _ _ _ so_far.1 c.requires.sized.columns (omega (arith, c.requires.sized.rows)) }
 
 pub overflow_add-r : goal.overflow_add-r
 unfolding side_limit
