@@ -103,7 +103,7 @@ prove_library() {
         return 1
     }
     echo "writing target/staticlib/libcontour_c.a, for which contour_c is proved once more"
-    (cd "$root" && rt staticlib contour_c) >>"$log" 2>&1 || {
+    "$root/tools/staticlib" >>"$log" 2>&1 || {
         tail -n 20 "$log" >&2
         return 1
     }

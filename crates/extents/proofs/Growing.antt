@@ -58,7 +58,7 @@ held-still q h = record { from-left = omega arith; to-right = omega arith; from-
 held_after : {e : Extent} {p : Point} (l : Line) → Holds e p → Holds (grown_by e l) p
 unfolding grown_by
 held_after [] h = h
-held_after (q ∷ l) h = held_after l (held-still q h)
+held_after {e = e} (q ∷ l) h = held_after {e = grown e q} l (held-still q h)
 
 held-among : (e : Extent) (points : List ℕ) (first count k : ℕ) → k < count → Holds (grown_by e (ring_in points first count)) (point_in points (first + k))
 unfolding ring_in grown_by

@@ -3,49 +3,36 @@
 use mathlib.Core.Path.{◌≡◌, refl, sym, ap, ◌∙◌}
 use mathlib.Core.Bool.{Bool, true, false, xor, ◌||◌}
 use mathlib.Core.List.{List}
-use Prim.Native.Nat.{ℕ, ◌-◌}
-use native.Mathlib.Omega.{arith}
+use Prim.Native.Nat.{ℕ, ◌<◌, ◌≤◌}
 use lib.Dec.{eqb}
 use lib.ListN.{length}
-use borrow.Author.Rules.{rules}
 use Rattle.scope.specs.Area.{area_refused, faulty_words}
 use Rattle.scope.specs.Containment.{contains_refused, signed}
 use Rattle.area.specs.Answers.{contains_answer, place_of}
 use Rattle.area.proofs.Walks.{Passed, Walked, passed-begin, passed-next, decided, none-decided, walked-begin, walked-held, walked_next, walked_end}
 use Rattle.area.proofs.Words.{sound, ring-sound, last_point, point_at}
 use Rattle.area.proofs.contains.Goals as goal
-use Rattle.area.proofs.contains.Goals.{After-loop-k, Else-faulty, In-vertices}
 
 -- what `contains` refuses of the outer ring is what `area` refuses
 refused-first : (outer : List ℕ) → eqb (length outer) 0 || faulty_words outer ≡ area_refused outer
 unfolding area_refused
 refused-first outer = refl
 
--- the words, seen from past the tests
-abbrev Outer : Else-faulty → List ℕ
-Outer c = c.args.outer.now
-
-abbrev Tested : Else-faulty → List ℕ
-Tested c = c.args.tested.now
-
 -- past the tests nothing is refused
-not-refused : (c : Else-faulty) → contains_refused (Outer c) (Tested c) ≡ false
+not-refused : (outer tested : List ℕ) (r f : Bool) → r ≡ area_refused outer → r ≡ false → f ≡ faulty_words tested → f ≡ false →
+    contains_refused outer tested ≡ false
 unfolding contains_refused
-not-refused c =
-    simp (refused-first, ← c.no_ring.ensures, c.if-no_ring.false, ← c.faulty.ensures, c.if-faulty.false)
-
--- the turn of the outer loop, seen from past the inner loop
-abbrev At-vertex : After-loop-k → In-vertices
-At-vertex c = c
+not-refused outer tested r f er r₀ ef f₀ = simp (refused-first, ← er, r₀, ← ef, f₀)
 
 -- past the pairs the vertex decides, by the sign
-sign-decides : (c : After-loop-k) (inside : Bool) → c.loop-k.within ≡ inside →
-    contains_answer (Outer (At-vertex c).before.before) (Tested (At-vertex c).before.before) ≡ place_of (signed inside)
-unfolding contains_answer point_at
-sign-decides c inside e =
-    let at-vertex = At-vertex c in
-    let place = decided at-vertex.before.vertices.inv at-vertex.vertices-test.taken inside (walked_end c.loop-k.invariant c.loop-k-test.false ∙ ap signed e) in
-    simp (not-refused at-vertex.before.before, place)
+sign-decides : (outer tested : List ℕ) (v k : ℕ) (ax ay : ℕ) (within inside : Bool) →
+    contains_refused outer tested ≡ false → Passed outer tested v → v < length tested →
+    Walked outer (point_at tested v) ax ay within k → length outer ≤ k → within ≡ inside →
+    contains_answer outer tested ≡ place_of (signed inside)
+unfolding contains_answer
+sign-decides outer tested v k ax ay within inside none passed turn walked end e =
+    let place = decided passed turn inside (walked_end walked end ∙ ap signed e) in
+    simp (none, place)
 
 pub returns-then-no_ring : goal.returns-then-no_ring
 unfolding contains_answer contains_refused
@@ -83,13 +70,17 @@ loop-k-preserved c =
     walked_next c.loop-k.invariant c.loop-k-test.true c.on_pair.ensures c.if-on_pair.false c.flips-within.ensures
 
 pub returns-then-within : goal.returns-then-within
-unfolding place_of signed
-returns-then-within c = sym (sign-decides (goal.at.returns-then-within c).After-loop-k true c.if-within.true)
+unfolding place_of signed point_at
+returns-then-within c =
+    let none = not-refused _ _ _ _ c.no_ring.ensures c.if-no_ring.false c.faulty.ensures c.if-faulty.false in
+    sym (sign-decides _ _ _ _ _ _ _ true none c.vertices.invariant c.vertices-test.true c.loop-k.invariant c.loop-k-test.false c.if-within.true)
 
 pub returns-in-vertices : goal.returns-in-vertices
-unfolding place_of signed
-returns-in-vertices c = sym (sign-decides (goal.at.returns-in-vertices c).After-loop-k false c.if-within.false)
+unfolding place_of signed point_at
+returns-in-vertices c =
+    let none = not-refused _ _ _ _ c.no_ring.ensures c.if-no_ring.false c.faulty.ensures c.if-faulty.false in
+    sym (sign-decides _ _ _ _ _ _ _ false none c.vertices.invariant c.vertices-test.true c.loop-k.invariant c.loop-k-test.false c.if-within.false)
 
 pub returns : goal.returns
 unfolding contains_answer place_of
-returns c = simp (not-refused (goal.at.returns c).Else-faulty, none-decided c.vertices.invariant c.vertices-test.false)
+returns c = simp (not-refused _ _ _ _ c.no_ring.ensures c.if-no_ring.false c.faulty.ensures c.if-faulty.false, none-decided c.vertices.invariant c.vertices-test.false)

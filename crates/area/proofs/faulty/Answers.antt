@@ -1,10 +1,7 @@
 -- `area::faulty` meets its contract. The loop's invariant: whether a word of all lies above the limit is whether one of those not passed does.
 -- The measure is what is left of the length. Assumes nothing.
-use mathlib.Core.Path.{◌≡◌}
-use Prim.Native.Nat.{◌≤◌, ◌-◌}
 use native.Mathlib.Omega.{arith}
-use lib.ListN.{length, drop, drop_of_length-le}
-use borrow.Author.Rules.{rules}
+use lib.ListN.{drop_of_length-le}
 use borrow.Author.Tests.{eq-eqb, ne_eqb, lt-ltb, le-ltb}
 use Rattle.scope.specs.Area.{faulty_words, any_above}
 use Rattle.scope.specs.Limits.{coordinate_limit, point_limit}

@@ -2,13 +2,9 @@
 -- The measure is what is left of the length. Assumes nothing.
 use mathlib.Core.Path.{◌≡◌}
 use Prim.Native.Nat.{◌≤◌, ◌-◌}
-use native.Mathlib.Omega.{arith}
-use lib.ListN.{length, drop, drop_of_length-le}
-use borrow.Author.Rules.{rules}
-use borrow.Author.Tests.{eq-eqb, ne_eqb, lt-ltb, le-ltb}
-use Rattle.scope.specs.Area.{faulty_words, any_above}
-use Rattle.scope.specs.Limits.{coordinate_limit, point_limit}
-use Rattle.laws.proofs.Words.{above-next}
+use lib.ListN.{length, drop}
+use Rattle.scope.specs.Area.{any_above}
+use Rattle.scope.specs.Limits.{coordinate_limit}
 use Rattle.area.proofs.faulty.Given as goal
 
 abbrev pub invariant-loop-i : goal.invariant-loop-i

@@ -1,7 +1,6 @@
 -- `area::flips` meets its contract: `left_is` makes the crossing abscissa a test of two sums, whose order goes by which end is above.
 -- Assumes nothing.
 use mathlib.Core.Bool.{xor}
-use borrow.Author.Rules.{rules}
 use borrow.Author.Tests.{lt-ltb, le-ltb}
 use native.Mathlib.Omega.{arith}
 use Rattle.scope.specs.Containment.{flips}

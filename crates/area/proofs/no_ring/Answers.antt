@@ -1,6 +1,5 @@
 -- `area::no_ring` meets its contract: the tests are those of the definition, each at its place.
 -- Assumes nothing.
-use borrow.Author.Rules.{rules}
 use borrow.Author.Tests.{eq-eqb, ne_eqb}
 use Rattle.scope.specs.Area.{area_refused}
 use Rattle.area.proofs.no_ring.Goals as goal

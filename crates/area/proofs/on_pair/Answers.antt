@@ -2,8 +2,6 @@
 -- Assumes nothing.
 use mathlib.Core.Path.{◌≡◌, refl}
 use mathlib.Core.Bool.{Bool, true, false, ◌&&◌}
-use borrow.Author.Rules.{rules}
-use borrow.Author.Tests.{not-true, not-false}
 use Rattle.scope.specs.Containment.{on_pair}
 use Rattle.area.proofs.Crossing.{around, collinear-is}
 use Rattle.area.proofs.on_pair.Goals as goal
@@ -18,9 +16,9 @@ and-true false = refl
 
 pub returns-then-not-spanned : goal.returns-then-not-spanned
 unfolding on_pair
-returns-then-not-spanned c = simp (← c.spanned.ensures, not-true c.spanned.result c.if-not-spanned.true, and-false)
+returns-then-not-spanned c = simp (← c.spanned.ensures, c.if-not-spanned.true, and-false)
 
 pub returns : goal.returns
 unfolding on_pair around
 returns c =
-    simp (collinear-is, ← c.spanned.ensures, not-false c.spanned.result c.if-not-spanned.false, and-true, c.turning.ensures, c.turning-2.ensures)
+    simp (collinear-is, ← c.spanned.ensures, c.if-not-spanned.false, and-true, c.turning.ensures, c.turning-2.ensures)

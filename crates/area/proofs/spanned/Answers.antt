@@ -1,6 +1,5 @@
 -- `area::spanned` meets its contract: each arm hands on what `between` ensures.
 -- Assumes nothing.
-use borrow.Author.Rules.{rules}
 use borrow.Author.Tests.{eq-eqb, ne_eqb}
 use Rattle.area.proofs.spanned.Goals as goal
 

@@ -1,12 +1,9 @@
 -- `area::sum_up` meets its contract. The loop's invariant is `Summing`; the measure is what is left of the length. Assumes nothing.
-use Prim.Native.Nat.{◌-◌}
 use native.Mathlib.Omega.{arith}
-use lib.ListN.{length}
-use borrow.Author.Rules.{rules}
 use Rattle.scope.specs.Limits.{coordinate_limit}
 use Rattle.area.proofs.Sums.{sums-end}
 use Rattle.area.proofs.Words.{last_point}
-use Rattle.area.proofs.Summing.{Summing, summing-begin, summing-next, none_left}
+use Rattle.area.proofs.Summing.{summing-begin, summing-next, none_left}
 use Rattle.area.proofs.sum_up.Goals as goal
 
 pub loop-i-init : goal.loop-i-init

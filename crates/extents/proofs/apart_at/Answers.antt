@@ -1,5 +1,4 @@
 -- `extents::apart_at` meets its contract, by those of `extent_at` and `apart`. Assumes nothing.
-use borrow.Author.Rules.{rules}
 use Rattle.extents.proofs.apart_at.Goals as goal
 
 pub returns : goal.returns

@@ -1,12 +1,8 @@
 -- `extents::extent_of` meets its contract. The loop's invariant is `Growing`: the extent, grown by the points that are left, is what is asked.
 -- The measure is how many points are left. Assumes nothing.
-use mathlib.Core.Path.{◌≡◌, refl}
+use mathlib.Core.Path.{◌≡◌}
 use Prim.Native.Nat.{◌+◌, ◌-◌}
-use native.Mathlib.Omega.{arith}
-use borrow.Author.Rules.{rules}
-use Rattle.extents.specs.Points.{point_in}
-use Rattle.extents.specs.Extents.{no_extent, dot}
-use Rattle.extents.proofs.Growing.{Growing, growing-none, growing-begin, growing-next, growing-end}
+use Rattle.extents.proofs.Growing.{Growing}
 use Rattle.extents.proofs.extent_of.Given as goal
 
 abbrev pub invariant-loop-k : goal.invariant-loop-k

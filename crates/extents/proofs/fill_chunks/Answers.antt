@@ -1,8 +1,6 @@
 -- `extents::fill_chunks` meets its contract. The loop's invariant is `Filled`: the first j extents are stored. The measure is how many are left.
 -- Assumes nothing.
-use Prim.Native.Nat.{◌-◌, ◌≤◌}
 use native.Mathlib.Omega.{arith}
-use Rattle.extents.specs.Filling.{Filled, HoldsChunk}
 use Rattle.extents.proofs.Growing.{chunk-meant}
 use Rattle.extents.proofs.Stores.{filled-begin, filled_next, filled-end}
 use Rattle.extents.proofs.fill_chunks.Goals as goal
@@ -13,7 +11,7 @@ loop-j-init c = (filled-begin _ _, omega arith)
 pub loop-j-preserved : goal.loop-j-preserved
 loop-j-preserved c =
     let inv = c.loop-j.invariant in
-    let fits = c.extent_of-e.type-inv in (
+    let fits = c.extent_of-e.type_inv in (
       filled_next inv.0 (chunk-meant _ _ c.extent_of-e.ensures) (omega arith) (omega arith) (omega arith) c.put_extent.ensures,
       omega arith,
     )

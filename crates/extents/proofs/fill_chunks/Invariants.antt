@@ -1,10 +1,7 @@
 -- `extents::fill_chunks` meets its contract. The loop's invariant is `Filled`: the first j extents are stored. The measure is how many are left.
 -- Assumes nothing.
 use Prim.Native.Nat.{◌-◌, ◌≤◌}
-use native.Mathlib.Omega.{arith}
 use Rattle.extents.specs.Filling.{Filled, HoldsChunk}
-use Rattle.extents.proofs.Growing.{chunk-meant}
-use Rattle.extents.proofs.Stores.{filled-begin, filled_next, filled-end}
 use Rattle.extents.proofs.fill_chunks.Given as goal
 
 abbrev pub invariant-loop-j : goal.invariant-loop-j

@@ -1,8 +1,6 @@
 -- `extents::fill_groups` meets its contract. The loop's invariant is `Filled`: the first j extents are stored. The measure is how many are left.
 -- Assumes nothing.
-use Prim.Native.Nat.{◌-◌, ◌≤◌}
 use native.Mathlib.Omega.{arith}
-use Rattle.extents.specs.Filling.{Filled, HoldsGroup}
 use Rattle.extents.proofs.Raising.{group-meant}
 use Rattle.extents.proofs.Stores.{filled-begin, filled_next, filled-end}
 use Rattle.extents.proofs.fill_groups.Goals as goal
@@ -15,7 +13,7 @@ loop-j-preserved c =
     let inv = c.loop-j.invariant in
     let items = c.args.items in
     let meant = group-meant items c.loop-j.j inv.0.below (omega arith) c.group_at-e.ensures in
-    let fits = c.group_at-e.type-inv in (
+    let fits = c.group_at-e.type_inv in (
       filled_next inv.0 meant (omega arith) (omega arith) (omega arith) c.put_extent.ensures,
       omega arith,
     )

@@ -1,10 +1,7 @@
 -- `extents::fill_groups` meets its contract. The loop's invariant is `Filled`: the first j extents are stored. The measure is how many are left.
 -- Assumes nothing.
 use Prim.Native.Nat.{◌-◌, ◌≤◌}
-use native.Mathlib.Omega.{arith}
 use Rattle.extents.specs.Filling.{Filled, HoldsGroup}
-use Rattle.extents.proofs.Raising.{group-meant}
-use Rattle.extents.proofs.Stores.{filled-begin, filled_next, filled-end}
 use Rattle.extents.proofs.fill_groups.Given as goal
 
 abbrev pub invariant-loop-j : goal.invariant-loop-j

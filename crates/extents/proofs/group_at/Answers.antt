@@ -1,9 +1,6 @@
 -- `extents::group_at` meets its contract. The loop's invariant: the extent holds the first i items. The measure is how many are left. Assumes nothing.
 use mathlib.Core.Path.{◌≡◌}
-use Prim.Native.Nat.{◌-◌, ◌≤◌}
 use native.Mathlib.Omega.{arith}
-use borrow.Author.Rules.{rules}
-use Rattle.extents.specs.Filling.{HoldsItems}
 use Rattle.extents.proofs.Raising.{holds-first, holds-next}
 use Rattle.extents.proofs.group_at.Goals as goal
 

@@ -1,10 +1,7 @@
 -- `extents::next_near` meets its contract. The loop's invariant is `Passed`: every item passed is apart. The measure is how many items are left.
 -- Assumes nothing.
-use mathlib.Core.Path.{sym, ◌∙◌}
 use Prim.Native.Nat.{◌-◌}
-use native.Mathlib.Omega.{arith}
-use borrow.Author.Tests.{not-true, not-false}
-use Rattle.extents.proofs.Passing.{Passed, passed-begin, passed-item, passed-group, passed-block, near-found, none-near}
+use Rattle.extents.proofs.Passing.{Passed}
 use Rattle.extents.proofs.next_near.Given as goal
 
 abbrev pub invariant-loop-i : goal.invariant-loop-i

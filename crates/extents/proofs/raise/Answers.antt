@@ -1,7 +1,6 @@
 -- `extents::raise` meets its contract: the two fillings are the ladder's two levels, the second behind the first. Assumes nothing.
 use native.Mathlib.Omega.{arith}
 use Rattle.extents.proofs.Raising.{raised-over}
-use borrow.Author.Rules.{rules}
 use Rattle.extents.proofs.raise.Goals as goal
 
 pub returns : goal.returns

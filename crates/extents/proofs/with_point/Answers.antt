@@ -1,6 +1,5 @@
 -- `extents::with_point` meets its contract, by those of `smaller` and `larger`. Assumes nothing.
 use Rattle.extents.specs.Extents.{grown}
-use borrow.Author.Rules.{rules}
 use Rattle.extents.proofs.with_point.Goals as goal
 
 pub returns : goal.returns
