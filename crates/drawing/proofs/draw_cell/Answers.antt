@@ -1,7 +1,7 @@
 -- `drawing::draw_cell` meets its contract: each arm draws the strokes that the case table has for its number, and the numbers that are left have none.
 -- Assumes nothing.
 use mathlib.Core.Path.{refl, ap}
-use borrow.Author.Rules.{rules}
+use native.Mathlib.Omega.{arith}
 use Rattle.scope.specs.Cells.{case_table, drawn}
 use Rattle.cells.specs.Sides.{stroke_at}
 use Rattle.machine.specs.Machine.{Run}
@@ -101,4 +101,4 @@ returns-in-14 c =
     c.stroke_at-in-14.ensures c.draw_stroke-in-14.ensures
 
 pub returns-in_default : goal.returns-in_default
-returns-in_default c = no-stroke _ _ _ _ _ c.in-1.rest
+returns-in_default c = no-stroke _ _ _ _ _ (omega arith)

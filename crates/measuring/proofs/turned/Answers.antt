@@ -1,5 +1,5 @@
 -- `measuring::turned` meets its contract: two wrapping steps add a difference. Assumes nothing.
-use Rattle.std.proofs.Common.{ℕ, ◌+◌, ◌*◌, ◌%◌, ◌^◌, ◌<◌, ◌≤◌, ap, ◌∙◌, mul-le-mul_left, arith, rules}
+use Rattle.std.proofs.Common.{ℕ, ◌+◌, ◌*◌, ◌%◌, ◌^◌, ◌<◌, ◌≤◌, ap, ◌∙◌, mul-le-mul_left, arith}
 use Rattle.scope.specs.Area.{twist}
 use Rattle.measuring.specs.Ringed.{Turned}
 use Rattle.measuring.proofs.Complement.{wrapped_sum}
@@ -20,4 +20,4 @@ unfolding Turned twist
 returns c a e =
     let args = c.args in
     wrapped_sum a (args.y * args.next_x) (args.x * args.next_y) c.wrapping_add_u64.result _
-    (c.wrapping_add_u64.ensures ∙ ap (λ (n : ℕ). (n + args.y * args.next_x) % 2 ^ 64) e) (omega arith) c.wrapping_sub_u64.ensures
+    (c.wrapping_add_u64.ensures.value ∙ ap (λ (n : ℕ). (n + args.y * args.next_x) % 2 ^ 64) e) (omega arith) c.wrapping_sub_u64.ensures.value
