@@ -14,6 +14,8 @@ use geojson::{TextAnswer, write_geojson};
 use isoringbuilder::Built;
 use reading::{Reading, VALUES, read_input};
 use scope::{Level, Rule};
+use std::io;
+use std::io::Read;
 
 // A byte more than the longest text that is read (`accepted-texts-are-short`).
 const INPUT: usize = 6157;
@@ -126,29 +128,41 @@ fn first(text: &[u8], n: usize) -> &[u8] {
 }
 
 // Writes a text of this many bytes as a line, or number 12.
-fn print(answer: Drawn, text: &[u8; TEXT]) {
+fn print(rt: &impl Print, answer: Drawn, text: &[u8; TEXT]) -> io::Result<()> {
     match answer {
         Drawn::Text(length) => {
-            io::write_all(1, first(text, length as usize));
-            io::write_all(1, b"\n");
+            rt.write_all(first(text, length as usize))?;
+            println!(rt; "")
         }
         Drawn::Faulty => {
-            io::write_all(1, b"refused ");
-            io::print_decimal(1, error::number(Refusal::BadText) as u64);
-            io::write_all(1, b"\n");
+            let number = error::number(Refusal::BadText);
+            println!(rt; "refused {number}")
         }
     }
 }
 
-// Reads standard input, as far as a text may reach, and draws it.
-fn run(input: &mut [u8; INPUT]) {
-    let mut text = [0u8; TEXT];
-    let length = io::read_full(0, input);
-    let answer = draw_input(first(input, length), &mut text);
-    print(answer, &text);
+// Reads until the bytes are full or the input ends, and says how many it has read.
+fn read_full(input: &mut impl Read, bytes: &mut [u8]) -> io::Result<usize> {
+    let mut done: usize = 0;
+    while done < bytes.len() {
+        let n = input.read(&mut bytes[done..])?;
+        if n == 0 {
+            break;
+        }
+        done += n;
+    }
+    Ok(done)
 }
 
-fn main() {
+// Reads standard input, as far as a text may reach, and draws it.
+fn run(rt: &HostRuntime, input: &mut [u8; INPUT]) -> io::Result<()> {
+    let mut text = [0u8; TEXT];
+    let length = read_full(&mut rt.stdin(), input)?;
+    let answer = draw_input(first(input, length), &mut text);
+    print(rt, answer, &text)
+}
+
+fn main(rt: HostRuntime) -> io::Result<()> {
     let mut input = [0u8; INPUT];
-    run(&mut input);
+    run(&rt, &mut input)
 }

@@ -6,7 +6,7 @@ use Prim.Native.Nat.{ℕ, zero, suc, ◌+◌, ◌*◌, ◌≤◌}
 use native.Mathlib.Omega.{arith}
 use Rattle.scope.specs.Terrain.{Sheet}
 use Rattle.scope.specs.Drawing.{segment_count}
-use Rattle.scope.specs.Pairs.{differ, sum_from, pairs_along, pairs_between, pairs_of_rows, pairs_of_sheet}
+use Rattle.scope.specs.Pairs.{differ, pairs_along, pairs_between, pairs_of_rows, pairs_of_sheet}
 use Rattle.laws.proofs.Edges.{Outside}
 use Rattle.laws.proofs.Sums.{sum_first, sum-last, sum-at-most, sum-nothing}
 use Rattle.laws.proofs.Laws.{at_most_one, segments-are-the-pairs}

@@ -1,9 +1,9 @@
 -- One cell drawn: the lines stay balanced, no point is marked twice in a role, and the number of open lines changes by the case table.
 -- Induction over the cell's strokes; a stroke's sides are used up by it. Assumes nothing.
 use mathlib.Core.Path.{◌≡◌, refl, sym, ◌∙◌, ap, subst}
-use mathlib.Core.Bool.{Bool, true, false, not, ◌&&◌, false≢true, true≢false}
+use mathlib.Core.Bool.{Bool, true, false, not, ◌&&◌, false≢true}
 use mathlib.Core.List.{List, [], ◌∷◌, ◌++◌, map, append_assoc, append-nil}
-use Prim.Native.Nat.{ℕ, zero, suc, ◌+◌, ◌≤◌, ◌<◌}
+use Prim.Native.Nat.{ℕ, suc, ◌+◌, ◌≤◌}
 use native.Mathlib.Omega.{arith}
 use lib.ListN.{length}
 use Rattle.scope.specs.Terrain.{Sheet}
@@ -11,9 +11,9 @@ use Rattle.scope.specs.Cells.{Point, Side, Left, Right, Top, Bottom, Stroke, ◌
 use Rattle.scope.specs.Stitching.{Drawing, nothing, stitch, stitch_all}
 use Rattle.laws.proofs.Total.{total, total-append}
 use Rattle.laws.proofs.Ends.{and_left, and_right, same-eq}
-use Rattle.laws.proofs.Counting.{same, ended, begun, Balanced, Fresh, fewer-or-more, balanced-after}
-use Rattle.laws.proofs.Edges.{Outside, ends_on, begins_on, Cell, cell, neighbour, Homes, ending-homes, beginning-homes, Drawable, sides_apart, different}
-use Rattle.laws.proofs.Strokes.{Role, begin, finish, other, side_by, on_by, same_side, leaving, fitting, head-fits, rest-fits, other-side}
+use Rattle.laws.proofs.Counting.{same, Balanced, Fresh, fewer-or-more, balanced-after}
+use Rattle.laws.proofs.Edges.{Outside, ends_on, begins_on, sides_apart}
+use Rattle.laws.proofs.Strokes.{Role, begin, finish, other, side_by, same_side, leaving, fitting, head-fits, rest-fits, other-side}
 use Rattle.laws.proofs.Marks.{point_by, marked, marked-ended, marked-begun, on_side, drawable, point-of-stroke}
 
 -- segments drawn one after the other

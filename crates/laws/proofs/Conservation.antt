@@ -1,13 +1,11 @@
 -- Conservation: each stitch adds exactly its own pair of points, so any sum over the consecutive pairs of all open lines and rings is the sum over the
 -- segments drawn. And every ring is closed. Assumes nothing.
-use mathlib.Core.Path.{◌≡◌, refl, sym, ◌∙◌, ap, subst}
-use mathlib.Core.Bool.{Bool, true, false, false≢true}
+use mathlib.Core.Path.{◌≡◌, sym, ap, subst}
+use mathlib.Core.Bool.{true, false≢true}
 use mathlib.Core.List.{List, [], ◌∷◌, ◌++◌}
-use Prim.Native.Nat.{ℕ, zero, suc, ◌+◌, ◌≤◌, ◌<◌}
-use native.Mathlib.Nat.{le_of_suc-le-suc, not-suc-le-zero}
+use Prim.Native.Nat.{ℕ, ◌+◌}
 use native.Mathlib.Omega.{arith}
-use lib.ListN.{length, get_or}
-use Rattle.scope.specs.Cells.{Point, Segment, same_point}
+use Rattle.scope.specs.Cells.{Point, Segment}
 use Rattle.scope.specs.Stitching.{Line, Drawing, starts_at, ends_at, nothing, stitch, stitch_all}
 use Rattle.laws.proofs.Total.{total, total-append}
 use Rattle.laws.proofs.Ends.{same-eq, same_refl}

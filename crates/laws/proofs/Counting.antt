@@ -1,15 +1,15 @@
 -- How many open lines start and end at a point, and how many there are, after a stitch; and, for segments that begin and end at most once at each
 -- point, what that makes of them: a line ends where a segment has ended and none has begun. Assumes nothing.
-use mathlib.Core.Path.{◌≡◌, refl, sym, ◌∙◌, ap, subst}
+use mathlib.Core.Path.{◌≡◌, refl, sym, ◌∙◌, ap}
 use mathlib.Core.Bool.{Bool, true, false, true≢false}
 use mathlib.Core.List.{List, [], ◌∷◌, ◌++◌}
-use Prim.Native.Nat.{ℕ, zero, suc, ◌+◌, ◌-◌, ◌≤◌, ◌<◌}
+use Prim.Native.Nat.{ℕ, ◌+◌, ◌-◌, ◌≤◌}
 use native.Mathlib.Omega.{arith}
 use lib.ListN.{length}
 use Rattle.scope.specs.Cells.{Point, Segment, same_point, when}
 use Rattle.scope.specs.Stitching.{Line, Drawing, starts_at, ends_at, stitch}
 use Rattle.laws.proofs.Total.{total, total-append, tally}
-use Rattle.laws.proofs.Ends.{same-eq, same_refl, start_is, end_is, end-of-prepended, start-of-joined, end-of-joined, end-of-appended}
+use Rattle.laws.proofs.Ends.{same-eq, start_is, end_is, end-of-prepended, start-of-joined, end-of-joined, end-of-appended}
 use Rattle.laws.proofs.Outcome.{Outcome, closed-ring, joined, appended, prepended, started, outcome}
 
 unfoldable pub ends : Drawing → Point → ℕ

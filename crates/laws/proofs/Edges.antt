@@ -1,16 +1,13 @@
 -- Edges: each point of a cell lies between two cells, and from the samples one of the two is where a segment may end there, the other where one may
 -- begin. A cell's strokes begin and end just where its samples say. Assumes nothing.
-use mathlib.Core.Path.{◌≡◌, refl, sym, ◌∙◌, ap, ap₂, subst}
+use mathlib.Core.Path.{◌≡◌, refl, sym, ◌∙◌, ap, ap₂}
 use mathlib.Core.Bool.{Bool, true, false, cond, not, ◌&&◌, false≢true}
-use mathlib.Core.List.{List, [], ◌∷◌}
-use Prim.Native.Nat.{ℕ, zero, suc, ◌+◌, ◌-◌, ◌*◌, ◌/◌, ◌≤◌, ◌<◌}
+use Prim.Native.Nat.{ℕ, zero, suc, ◌+◌, ◌-◌, ◌*◌, ◌/◌, ◌<◌}
 use native.Mathlib.Omega.{arith}
-use lib.Dec.{eqb, ltb}
-use lib.ListN.{length}
-use borrow.Author.Tests.{eqb-true, lt-ltb, le-ltb, not-true}
-use Rattle.scope.specs.Terrain.{Sheet, sheet}
-use Rattle.scope.specs.Cells.{Point, Side, Left, Right, Top, Bottom, Stroke, ◌⟶◌, point_of, number_of, case_table, drawn, met, on_finished, same_point}
-use Rattle.scope.specs.Pairs.{differ}
+use lib.Dec.{ltb}
+use borrow.Author.Tests.{lt-ltb, le-ltb, not-true}
+use Rattle.scope.specs.Terrain.{Sheet}
+use Rattle.scope.specs.Cells.{Point, Side, Left, Right, Top, Bottom, point_of, same_point}
 use Rattle.laws.proofs.Ends.{and_left, and_right, same-eq}
 
 -- nothing outside the grid is above

@@ -1,9 +1,9 @@
 -- Where open lines start and end: on the edges between finished and unfinished cells. A point that one role has reached and the other has not lies
 -- between its two cells, of which one is finished and the other is not. Assumes nothing.
-use mathlib.Core.Path.{◌≡◌, refl, sym, ◌∙◌, ap, ap₂, subst}
-use mathlib.Core.Bool.{Bool, true, false, not, ◌&&◌, ◌||◌, false≢true}
-use mathlib.Core.List.{List, [], ◌∷◌, ◌++◌, map}
-use Prim.Native.Nat.{ℕ, zero, suc, ◌+◌, ◌*◌, ◌≤◌, ◌<◌}
+use mathlib.Core.Path.{◌≡◌, refl, sym, ◌∙◌, ap, ap₂}
+use mathlib.Core.Bool.{Bool, true, false, not}
+use mathlib.Core.List.{List, [], ◌∷◌, map}
+use Prim.Native.Nat.{ℕ, zero, suc, ◌≤◌, ◌<◌}
 use native.Mathlib.Nat.{not-suc-le-zero}
 use native.Mathlib.Decide.{dec_le, dec_lt, ℕ_discrete}
 use native.Mathlib.Omega.{arith}
@@ -11,12 +11,11 @@ use Rattle.scope.specs.Terrain.{Sheet}
 use Rattle.scope.specs.Cells.{Point, Side, Left, Right, Top, Bottom, Stroke, Segment, same_point, when, point_of, placed, drawn, cell_number, cell_segments}
 use Rattle.scope.specs.Drawing.{segments_after}
 use Rattle.laws.proofs.Total.{total}
-use Rattle.laws.proofs.Ends.{and_left, and_right, same-eq}
-use Rattle.laws.proofs.Counting.{same}
+use Rattle.laws.proofs.Ends.{and_left, same-eq}
 use Rattle.laws.proofs.Edges.{Outside, Cell, cell, neighbour, left-is-right, top-is-bottom}
 use Rattle.laws.proofs.Strokes.{Role, begin, finish, other, side_by, leaving, fitting, head-fits, rest-fits, strokes-fit, same_side}
 use Rattle.laws.proofs.Visits.{not-visited, visited-above, visited-before}
-use Rattle.laws.proofs.Marks.{point_by, marked, on_side, home_of, point-of-stroke, home_here, home-there, drawable, in_cell, measure, only-there, marked_by, across-left, across-top, across-right, across-bottom}
+use Rattle.laws.proofs.Marks.{point_by, marked, on_side, home_of, point-of-stroke, home-there, drawable, in_cell, measure, only-there, marked_by, across-left, across-top, across-right, across-bottom}
 use Rattle.laws.proofs.Rings.{in-columns}
 
 -- the edges between finished and unfinished cells after c cells of row r

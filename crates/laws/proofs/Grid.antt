@@ -2,21 +2,21 @@
 -- segments and open lines together are the pairs to the right of and below the finished cells. Induction over the cells in row order; a row's end
 -- costs nothing, since the pair there lies outside the grid. Assumes nothing.
 use mathlib.Core.Path.{◌≡◌, refl, sym, ◌∙◌, ap, ap₂, subst}
-use mathlib.Core.Bool.{Bool, true, false}
-use mathlib.Core.List.{List, [], ◌∷◌, ◌++◌, map}
-use Prim.Native.Nat.{ℕ, zero, suc, ◌+◌, ◌-◌, ◌*◌, ◌≤◌, ◌<◌}
+use mathlib.Core.Bool.{Bool}
+use mathlib.Core.List.{List}
+use Prim.Native.Nat.{ℕ, zero, suc, ◌+◌, ◌-◌, ◌*◌, ◌≤◌}
 use native.Mathlib.Nat.{le_of_suc-le-suc}
 use native.Mathlib.Omega.{arith}
 use lib.ListN.{length, length-append, length-map}
 use Rattle.scope.specs.Terrain.{Sheet}
-use Rattle.scope.specs.Cells.{Point, Side, Segment, placed, point_of, drawn, cell_number, cell_segments, number_of, met}
-use Rattle.scope.specs.Stitching.{Drawing, nothing, stitch_all}
+use Rattle.scope.specs.Cells.{Segment, placed, point_of, drawn, cell_number, cell_segments, met}
+use Rattle.scope.specs.Stitching.{nothing, stitch_all}
 use Rattle.scope.specs.Drawing.{along, down, up_to, with_cell, segments_after}
 use Rattle.scope.specs.Pairs.{differ, sum_from, pairs_along, pairs_between, shared_pairs, pairs_of_rows}
 use Rattle.laws.proofs.Total.{total}
-use Rattle.laws.proofs.Counting.{ends, starts, ended, begun, Balanced}
+use Rattle.laws.proofs.Counting.{ends, starts, ended, begun}
 use Rattle.laws.proofs.Edges.{Outside}
-use Rattle.laws.proofs.Strokes.{Role, begin, finish, other, strokes-fit, met-pairs, twice-strokes}
+use Rattle.laws.proofs.Strokes.{other, strokes-fit, met-pairs, twice-strokes}
 use Rattle.laws.proofs.Marks.{marked, on_side, unmarked, shared}
 use Rattle.laws.proofs.Cellwise.{Sound, open_count, Ready, strokes-drawn}
 use Rattle.laws.proofs.Sums.{sum-last, sum-nothing}

@@ -10,10 +10,10 @@ use lib.Dec.{ltb}
 use lib.ListN.{length, length-append}
 use borrow.Author.Tests.{le-ltb}
 use Rattle.scope.specs.Terrain.{Sheet, sheet}
-use Rattle.scope.specs.Cells.{Point, Segment, drawn, cell_number, cell_segments, met, opened, closed}
-use Rattle.scope.specs.Stitching.{Line, Drawing, nothing, stitch_all}
+use Rattle.scope.specs.Cells.{Point, Segment, drawn, cell_number, opened, closed}
+use Rattle.scope.specs.Stitching.{Line, nothing, stitch_all}
 use Rattle.scope.specs.Drawing.{along, down, up_to, segments_after, drawing_after, open_after, rings_after, segments_of, rings_of, segment_count, ring_count, peak}
-use Rattle.scope.specs.Pairs.{differ, sum_from, pairs_along, pairs_between, shared_pairs, pairs_of_rows, pairs_of_sheet}
+use Rattle.scope.specs.Pairs.{differ, sum_from, pairs_along, shared_pairs, pairs_of_rows, pairs_of_sheet}
 use Rattle.laws.proofs.Total.{total}
 use Rattle.laws.proofs.Counting.{same}
 use Rattle.laws.proofs.Conservation.{pair_sum, drawn_sum, segment_sum, conserved-from-none, Each, Closed, rings-closed}
@@ -22,7 +22,7 @@ use Rattle.laws.proofs.Strokes.{finish}
 use Rattle.laws.proofs.Marks.{marked}
 use Rattle.laws.proofs.Cellwise.{open_count}
 use Rattle.laws.proofs.Sums.{sum-nothing, sum-at-most}
-use Rattle.laws.proofs.Grid.{After, after, one_cell, more-segments}
+use Rattle.laws.proofs.Grid.{after, one_cell, more-segments}
 use Rattle.laws.proofs.Rings.{RingLaw, fault, cell-good, all_none, ring-laws}
 use Rattle.laws.proofs.Peak.{peak-at-most, peak-is-highest, peak-is-reached}
 

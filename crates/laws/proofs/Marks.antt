@@ -1,20 +1,19 @@
 -- How many of the segments drawn so far begin or end at a point of the next cell. Each point has one cell that a segment may begin in and one that a
 -- segment may end in, so the count is that cell's where it is finished, and else 0. Assumes nothing.
-use mathlib.Core.Path.{◌≡◌, refl, sym, ◌∙◌, ap, subst}
-use mathlib.Core.Bool.{Bool, true, false, not, ◌&&◌, ◌||◌, false≢true}
-use mathlib.Core.List.{List, [], ◌∷◌, ◌++◌, map}
-use Prim.Native.Nat.{ℕ, zero, suc, ◌+◌, ◌≤◌, ◌<◌}
+use mathlib.Core.Path.{◌≡◌, refl, sym, ◌∙◌, ap}
+use mathlib.Core.Bool.{Bool, true, false, not, ◌||◌, false≢true}
+use mathlib.Core.List.{List, [], ◌∷◌, map}
+use Prim.Native.Nat.{ℕ, zero, suc, ◌+◌, ◌≤◌}
 use native.Mathlib.Nat.{not-suc-le-zero}
 use native.Mathlib.Omega.{arith}
-use lib.Dec.{eqb}
 use borrow.Author.Tests.{eqb-true}
 use Rattle.scope.specs.Terrain.{Sheet}
-use Rattle.scope.specs.Cells.{Point, Side, Left, Right, Top, Bottom, side_number, Stroke, ◌⟶◌, Segment, same_point, when, point_of, placed, drawn, cell_number, cell_segments, number_of, on_finished}
+use Rattle.scope.specs.Cells.{Point, Side, Left, Right, Top, Bottom, side_number, Stroke, ◌⟶◌, Segment, same_point, when, point_of, placed, drawn, cell_number, cell_segments, on_finished}
 use Rattle.scope.specs.Drawing.{segments_after}
 use Rattle.laws.proofs.Total.{total}
-use Rattle.laws.proofs.Ends.{and_left, and_right, same-eq, same_refl}
+use Rattle.laws.proofs.Ends.{and_left, same_refl}
 use Rattle.laws.proofs.Counting.{same, ended, begun}
-use Rattle.laws.proofs.Edges.{Outside, ending, beginning, ends_on, begins_on, Cell, cell, end_cell, start_cell, neighbour, Homes, ending-homes, beginning-homes, left-is-right, top-is-bottom, different, Drawable, ending-drawable, beginning-drawable}
+use Rattle.laws.proofs.Edges.{Outside, Cell, cell, end_cell, start_cell, neighbour, ending-homes, beginning-homes, left-is-right, top-is-bottom, different, Drawable, ending-drawable, beginning-drawable}
 use Rattle.laws.proofs.Strokes.{Role, begin, finish, other, side_by, on_by, has, present, same_side, leaving, fitting, head-fits, rest-fits, strokes-fit}
 use Rattle.laws.proofs.Visits.{not-visited, visited-above, visited-before}
 

@@ -4,22 +4,22 @@
 use mathlib.Core.Path.{◌≡◌, refl, sym, ◌∙◌, ap, subst}
 use mathlib.Core.Bool.{Bool, true, false, not, cond, ◌&&◌, false≢true, true≢false}
 use mathlib.Core.List.{List, [], ◌∷◌, ◌++◌, map}
-use Prim.Native.Nat.{ℕ, zero, suc, ◌+◌, ◌*◌, ◌/◌, ◌%◌, ◌≤◌, ◌<◌}
+use Prim.Native.Nat.{ℕ, zero, suc, ◌+◌, ◌*◌, ◌%◌, ◌≤◌}
 use native.Mathlib.Decide.{dec_le}
 use native.Mathlib.Omega.{arith}
 use lib.Dec.{eqb, leb}
 use lib.ListN.{length, length-append}
-use borrow.Author.Tests.{eqb-true, eq-eqb, leb-true, le-leb, not-true, not-false}
+use borrow.Author.Tests.{eqb-true, eq-eqb, leb-true, le-leb, not-true}
 use Rattle.scope.specs.Terrain.{Sheet}
 use Rattle.scope.specs.Cells.{Point, Side, Left, Right, Top, Bottom, Stroke, ◌⟶◌, Segment, same_point, when, point_of, placed, drawn, cell_number, cell_segments}
-use Rattle.scope.specs.Stitching.{Line, Drawing}
+use Rattle.scope.specs.Stitching.{Line}
 use Rattle.scope.specs.Drawing.{along, down, up_to, with_cell, segments_after}
 use Rattle.laws.proofs.Total.{total, total-append}
 use Rattle.laws.proofs.Ends.{and_left, and_right, point-eq, same_refl}
 use Rattle.laws.proofs.Counting.{same}
 use Rattle.laws.proofs.Conservation.{pair_sum, Each, Closed}
 use Rattle.laws.proofs.Edges.{Outside, Cell, end_cell, start_cell, first_cell, second_cell, tested}
-use Rattle.laws.proofs.Strokes.{Role, begin, finish, other, side_by, leaving, fitting, head-fits, rest-fits, strokes-fit, same_side}
+use Rattle.laws.proofs.Strokes.{Role, begin, finish, side_by, leaving, fitting, head-fits, rest-fits, strokes-fit, same_side}
 use Rattle.laws.proofs.Marks.{on_side, drawable, home_here}
 use Rattle.laws.proofs.Cellwise.{roles-apart}
 

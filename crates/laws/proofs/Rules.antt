@@ -1,16 +1,15 @@
 -- Which of the five rules a segment follows, where the line that ends at its start and the line that starts at its end are known. Assumes nothing.
-use mathlib.Core.Path.{◌≡◌, refl, sym, ◌∙◌, ap, ap₂, subst}
-use mathlib.Core.Bool.{Bool, true, false, cond, false≢true}
-use mathlib.Core.List.{List, [], ◌∷◌, ◌++◌}
-use Prim.Native.Nat.{ℕ, zero, suc, ◌+◌, ◌≤◌, ◌<◌}
+use mathlib.Core.Path.{◌≡◌, refl, ◌∙◌, ap, ap₂}
+use mathlib.Core.Bool.{Bool, true, false, cond}
+use mathlib.Core.List.{List, [], ◌∷◌}
+use Prim.Native.Nat.{ℕ, zero, suc, ◌≤◌, ◌<◌}
 use native.Mathlib.Nat.{le_of_suc-le-suc, not-suc-le-zero}
 use native.Mathlib.Omega.{arith}
-use lib.Dec.{ltb, eqb}
 use lib.ListN.{length, get_or}
 use borrow.Author.Tests.{lt-ltb, le-ltb, eq-eqb, ne_eqb}
-use Rattle.scope.specs.Cells.{Point, Segment, when}
+use Rattle.scope.specs.Cells.{Segment, when}
 use Rattle.scope.specs.Stitching.{Line, Drawing, starts_at, ends_at, find, close, join, append, prepend, start, stitch_at, stitch}
-use Rattle.laws.proofs.Total.{total, total-at, total-two, tally, found}
+use Rattle.laws.proofs.Total.{total, total-at, tally}
 use Rattle.laws.proofs.Counting.{ends, starts}
 
 -- the only line that passes is the one found

@@ -1,15 +1,15 @@
 -- Two words stored for each line of a list, one at the frontier word of either tip. Where the words of all lines are apart, each holds what was stored there, and
 -- words past the frontier stay. Assumes nothing.
-use mathlib.Core.Path.{◌≡◌, refl, sym, ◌∙◌, ap, ap₂}
+use mathlib.Core.Path.{◌≡◌, refl, sym, ◌∙◌, ap}
 use mathlib.Core.List.{List, [], ◌∷◌, ◌++◌}
 use Prim.Native.Nat.{ℕ, zero, suc, ◌+◌, ◌≤◌, ◌<◌}
 use native.Mathlib.Decide.{ℕ_discrete}
 use native.Mathlib.Omega.{arith}
-use lib.ListN.{length, get_or, set, drop, length-set, length-append}
+use lib.ListN.{length, get_or, set, drop, length-set}
 use lib.Seq.{get_or-set_same, get_or-set_other, drop-set-lt}
 use Rattle.scope.specs.Stitching.{Line}
 use Rattle.laws.proofs.Strokes.{Role, begin, finish}
-use Rattle.laws.proofs.LineWords.{word_by, Clear, Apt, Spread}
+use Rattle.laws.proofs.LineWords.{word_by, Apt, Spread}
 
 module _ (dx : ℕ) (value : ℕ → Role → ℕ) (ls : List Line) where
   abbrev word : ℕ → Role → ℕ

@@ -3,11 +3,11 @@
 use mathlib.Core.Path.{◌≡◌, refl, sym, ◌∙◌, ap}
 use mathlib.Core.Bool.{Bool, true, false, not, ◌&&◌, ◌||◌, false≢true}
 use mathlib.Core.List.{List, [], ◌∷◌}
-use Prim.Native.Nat.{ℕ, zero, suc, ◌+◌, ◌*◌, ◌≤◌, ◌<◌}
+use Prim.Native.Nat.{◌+◌, ◌*◌}
 use lib.Dec.{eqb}
 use lib.ListN.{length}
 use borrow.Author.Tests.{eqb-true, eq-eqb}
-use Rattle.scope.specs.Cells.{Side, Left, Right, Top, Bottom, side_number, Stroke, ◌⟶◌, number_of, case_table, drawn, met, on_finished, opened, closed}
+use Rattle.scope.specs.Cells.{Side, Left, Right, Top, Bottom, side_number, Stroke, ◌⟶◌, number_of, case_table, drawn, met, on_finished}
 use Rattle.scope.specs.Pairs.{differ}
 use Rattle.laws.proofs.Ends.{and_left, and_right}
 use Rattle.laws.proofs.Edges.{ending, beginning}

@@ -1,19 +1,19 @@
 -- The tips of open lines: no point is a tip of two lines, and at the end of a cell each tip has a frontier word of its own. Assumes nothing.
-use mathlib.Core.Path.{◌≡◌, refl, sym, ◌∙◌, ap, subst}
-use mathlib.Core.Bool.{Bool, true, false, cond}
-use mathlib.Core.List.{List, [], ◌∷◌}
-use Prim.Native.Nat.{ℕ, zero, suc, ◌+◌, ◌-◌, ◌*◌, ◌/◌, ◌%◌, ◌≤◌, ◌<◌}
+use mathlib.Core.Path.{◌≡◌, sym, ◌∙◌, ap, subst}
+use mathlib.Core.Bool.{Bool, true, cond}
+use mathlib.Core.List.{List, []}
+use Prim.Native.Nat.{ℕ, suc, ◌+◌, ◌-◌, ◌*◌, ◌/◌, ◌%◌, ◌≤◌, ◌<◌}
 use native.Mathlib.Decide.{ℕ_discrete}
 use native.Mathlib.Omega.{arith}
 use lib.Dec.{eqb}
 use lib.ListN.{length, get_or}
 use borrow.Author.Tests.{eq-eqb, ne_eqb}
 use Rattle.scope.specs.Terrain.{Sheet}
-use Rattle.scope.specs.Cells.{Point, Segment, Side, Left, Top, Bottom, point_of, when}
+use Rattle.scope.specs.Cells.{Point, Segment, Left, Top, Bottom, point_of, when}
 use Rattle.scope.specs.Stitching.{Line, Drawing, starts_at, ends_at, nothing, stitch_all}
 use Rattle.scope.specs.Drawing.{segments_after, drawing_after}
 use Rattle.laws.proofs.Total.{total, total-at, total-two, tally}
-use Rattle.laws.proofs.Counting.{ends, starts, ended, begun, Balanced}
+use Rattle.laws.proofs.Counting.{ends, starts, Balanced}
 use Rattle.laws.proofs.Edges.{Outside}
 use Rattle.laws.proofs.Strokes.{Role, begin, finish, other}
 use Rattle.laws.proofs.Marks.{marked, marked-ended, marked-begun}

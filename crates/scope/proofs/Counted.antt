@@ -1,5 +1,5 @@
 -- The pairs that a finished and an unfinished cell share, counted by hand after each cell of the rows 01 and 10, and computed. Assumes nothing.
-use Prim.Native.Nat.{ℕ, suc, ◌+◌}
+use Prim.Native.Nat.{ℕ, ◌+◌}
 use mathlib.Core.Path.{◌≡◌, refl}
 use mathlib.Core.List.{List, [], ◌∷◌, ◌++◌}
 use lib.Dec.{eqb}

@@ -1,7 +1,7 @@
 -- Cells: their numbers, their four points, the case table, and the segments they draw.
 -- Cells are counted from 0: cell (c, r) is document 01's cell (c - 1, r - 1), so it runs from 0, 0 to dx, dy, and its four samples stand in the
 -- sheet at c, r and one further. Left at c = 0 and Top at r = 0 are never drawn. Assumes nothing.
-use Rattle.std.specs.Prelude.{ℕ, zero, suc, ◌+◌, ◌-◌, ◌*◌, ◌/◌, ◌%◌, Bool, true, false, ◌&&◌, List, [], ◌∷◌, map, eqb, length, get_or}
+use Rattle.std.specs.Prelude.{ℕ, suc, ◌+◌, ◌-◌, ◌*◌, ◌/◌, ◌%◌, Bool, true, false, ◌&&◌, List, [], ◌∷◌, map, eqb, length, get_or}
 use Rattle.scope.specs.Terrain.{Sheet}
 
 -- n where the test holds, else 0

@@ -1,5 +1,5 @@
 -- Classes and owners in a contour. A fate is what a record says of its ring. Assumes nothing.
-use Rattle.std.specs.Prelude.{ℕ, zero, suc, Bool, true, false, cond, ◌&&◌, List, [], ◌∷◌, map}
+use Rattle.std.specs.Prelude.{ℕ, suc, Bool, cond, ◌&&◌, List, [], ◌∷◌, map}
 use Rattle.scope.specs.Limits.{no_owner}
 use Rattle.scope.specs.Stitching.{Line}
 use Rattle.scope.specs.Area.{area, positive}

@@ -1,5 +1,5 @@
 -- The proved dozen: document 01's table of twelve, its results computed over the definitions, under one statement. Assumes nothing.
-use Rattle.std.specs.Prelude.{ℕ, ◌≡◌, refl, Bool, true, false, List, [], ◌∷◌, map, Float, ℤ, pos, negsuc, neg_ℤ, get_or}
+use Rattle.std.specs.Prelude.{ℕ, ◌≡◌, refl, false, List, [], ◌∷◌, map, Float, ℤ, pos, negsuc, neg_ℤ, get_or}
 use Rattle.std.proofs.Math.Bool.{xor}
 use Rattle.std.specs.Float.Ieee as Ieee
 use Rattle.std.specs.Float.{nan}
@@ -10,7 +10,7 @@ use Rattle.scope.specs.Drawing.{along, down, up_to, with_cell, segments_after, d
 use Rattle.scope.specs.Area.{twist, twists, last_of, area, positive}
 use Rattle.scope.specs.Containment.{Answer, outside, boundary, is_zero, below, below_fraction, collinear, between, on_pair, left_of_crossing, flips, signed, walk, point_against, decide, ring_against, not_outside}
 use Rattle.scope.specs.Contour.{Fate, polygon, hole, dropped, takes, owner_from, fates_by, contour_classes, contour_fates}
-use Rattle.scope.specs.Band.{sort_key, Numbered, numbered_from, insert, sorted, band_order, order_rings, takers, classes_from, band_fates}
+use Rattle.scope.specs.Band.{sort_key, numbered_from, insert, sorted, band_order, order_rings, takers, classes_from, band_fates}
 use Rattle.scope.specs.Smoothing.{whole, half, real_of, moved, sample_at, moves, Vertex, smoothed}
 
 -- a row's result, of the kind that the row speaks of

@@ -1,6 +1,6 @@
 -- The drawing after any number of cells in row order, and S, R and H. A number of cells is given as r whole rows and c cells of row r;
 -- the last cell is behind dy rows and dx + 1 cells. Assumes nothing.
-use Rattle.std.specs.Prelude.{ℕ, zero, suc, max, List, [], ◌∷◌, ◌++◌, length}
+use Rattle.std.specs.Prelude.{ℕ, zero, suc, max, List, [], ◌++◌, length}
 use Rattle.scope.specs.Terrain.{Sheet}
 use Rattle.scope.specs.Cells.{Segment, cell_segments}
 use Rattle.scope.specs.Stitching.{Line, Drawing, nothing, stitch_all}

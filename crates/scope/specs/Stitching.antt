@@ -1,7 +1,7 @@
 -- Stitching: what a new segment does, by what the open lines show. Lines are lists of points.
 -- Document 01 gives the open lines no order. Here a new line goes to the end, f followed by g stands at f's place, and where a line goes the last one
 -- takes its place. Assumes nothing.
-use Rattle.std.specs.Prelude.{ℕ, zero, suc, ◌-◌, Bool, true, false, cond, List, [], ◌∷◌, ◌++◌, ltb, eqb, length, get_or, set, take}
+use Rattle.std.specs.Prelude.{ℕ, suc, ◌-◌, Bool, false, cond, List, [], ◌∷◌, ◌++◌, ltb, eqb, length, get_or, set, take}
 use Rattle.scope.specs.Cells.{Point, same_point, Segment}
 
 abbrev pub Line : Type 0

@@ -1,6 +1,5 @@
 -- The tables at exit: work tables zeroed, points packed in record order, and directory records. Assumes nothing.
-use Rattle.std.specs.Prelude.{ℕ, zero, suc, ◌+◌, List, [], ◌∷◌, ◌++◌, map, length, drop, replicate, Bool, Float}
-use Rattle.scope.specs.Cells.{Point}
+use Rattle.std.specs.Prelude.{ℕ, zero, suc, ◌+◌, List, [], ◌∷◌, ◌++◌, length, drop, replicate, Bool, Float}
 use Rattle.scope.specs.Stitching.{Line}
 use Rattle.scope.specs.Area.{area, area_words}
 use Rattle.scope.specs.Contour.{Fate, line, class_word, owner_word, contour_fates}

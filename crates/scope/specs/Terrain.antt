@@ -1,7 +1,7 @@
 -- The terrain: samples above or not, and the sheet that everything else is drawn from. `is_above` is the one definition that touches floats.
 -- A sheet is counted from one column and one row outside the grid: the sample in column x and row y of the grid stands at x + 1, y + 1.
 -- Assumes nothing.
-use Rattle.std.specs.Prelude.{ℕ, zero, suc, ◌+◌, ◌*◌, Bool, true, false, ◌&&◌, List, ltb, Float, get_or}
+use Rattle.std.specs.Prelude.{ℕ, zero, suc, ◌+◌, ◌*◌, Bool, false, ◌&&◌, List, ltb, Float, get_or}
 use Rattle.std.specs.Float.{nan}
 use Rattle.std.specs.Float.Ieee.{le, lt}
 use Rattle.scope.specs.declared.Rule.{Rule}

@@ -4,6 +4,7 @@ use mathlib.Core.List.{List, [], ◌∷◌}
 use Prim.Native.Nat.{ℕ}
 use native.Mathlib.Decide.{dec_lt}
 use native.Mathlib.Omega.{arith}
+use borrow.Author.Rules.{rules}
 use Rattle.scope.specs.Cells.{case_table, drawn, on_finished, met, opened, closed}
 use Rattle.cells.proofs.Changes.{at-keys, in-range, past-the-table}
 use Rattle.cells.proofs.change_of.Goals as goal
@@ -27,9 +28,7 @@ returns-in-5 c = at-keys saddles tt c.args.number c.in-5.is
 
 pub returns-in-7 : goal.returns-in-7
 unfolding case_table drawn on_finished met opened closed
-returns-in-7 c =
-    let rest = c.in-2.rest in
-    in-range 5 4 saddles keeping tt _ c.if-number-lt5.false c.if-number-lt9.true rest.0.1 rest.1
+returns-in-7 c = in-range 5 4 saddles keeping tt c.args.number (omega arith) (omega arith) (omega arith) (omega arith)
 
 pub returns-in_default : goal.returns-in_default
 unfolding case_table drawn on_finished met opened closed
@@ -39,24 +38,19 @@ pub returns-in_default-2 : goal.returns-in_default-2
 unfolding case_table drawn on_finished met opened closed
 returns-in_default-2 c =
     let number = c.args.number in
-    let rest = c.in-2.rest in
     elim (dec_lt number 16) [
-      | yes h ↦ in-range 13 3 opening keeping tt number c.if-number-lt13.false h rest.0.0.1 rest.1
+      | yes h ↦ in-range 13 3 opening keeping tt number (omega arith) h (omega arith) (omega arith)
       | no h ↦ past-the-table number (omega arith)
     ]
 
 pub returns-in-1-to-14 : goal.returns-in-1-to-14
 unfolding case_table drawn on_finished met opened closed
-returns-in-1-to-14 c = at-keys keeping tt c.args.number c.in-2.keys3
+returns-in-1-to-14 c = at-keys keeping tt c.args.number (search rules)
 
 pub returns-in-1-to-14-2 : goal.returns-in-1-to-14-2
 unfolding case_table drawn on_finished met opened closed
-returns-in-1-to-14-2 c =
-    let rest = c.in-2.rest in
-    in-range 1 4 opening keeping tt _ c.if-number-lt1.false c.if-number-lt5.true rest.0.0.1 rest.1
+returns-in-1-to-14-2 c = in-range 1 4 opening keeping tt c.args.number (omega arith) (omega arith) (omega arith) (omega arith)
 
 pub returns-in-1-to-14-3 : goal.returns-in-1-to-14-3
 unfolding case_table drawn on_finished met opened closed
-returns-in-1-to-14-3 c =
-    let rest = c.in-2.rest in
-    in-range 9 4 saddles keeping tt _ c.if-number-lt9.false c.if-number-lt13.true rest.0.1 rest.1
+returns-in-1-to-14-3 c = in-range 9 4 saddles keeping tt c.args.number (omega arith) (omega arith) (omega arith) (omega arith)

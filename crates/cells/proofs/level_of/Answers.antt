@@ -1,5 +1,4 @@
 -- `cells::level_of` meets its contract: the rule is that of the number. Assumes nothing.
-use borrow.Author.Rules.{rules}
 use Rattle.cells.specs.Rules.{level_of}
 use Rattle.cells.proofs.level_of.Goals as goal
 

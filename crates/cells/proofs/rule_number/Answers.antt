@@ -1,6 +1,5 @@
 -- `cells::rule_number` meets its contract: each arm is the definition's. Assumes nothing.
 use mathlib.Core.Path.{refl}
-use borrow.Author.Rules.{rules}
 use Rattle.cells.specs.Rules.{rule_number}
 use Rattle.cells.proofs.rule_number.Goals as goal
 

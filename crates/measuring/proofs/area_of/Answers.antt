@@ -1,5 +1,5 @@
 -- `measuring::area_of` meets its contract: the part of the points is the ring's words. Assumes nothing.
-use Rattle.std.proofs.Common.{◌≡◌, ◌+◌, ◌-◌, ◌*◌, sym, ap, ◌∙◌, arith, rules}
+use Rattle.std.proofs.Common.{◌≡◌, ◌+◌, ◌-◌, ◌*◌, sym, ap, ◌∙◌, arith}
 use Rattle.scope.specs.Area.{twos_complement}
 use Rattle.scope.specs.GeoJson.{words_in}
 use Rattle.measuring.proofs.Complement.{no-points, past_points, part_length, area-within}

@@ -1,5 +1,5 @@
 -- `measuring::measure` meets its contract: the difference of the two sums, modulo 2^64, is the area in two's complement. Assumes nothing.
-use Rattle.std.proofs.Common.{sym, ap, ◌∙◌, arith, rules}
+use Rattle.std.proofs.Common.{sym, ap, ◌∙◌, arith}
 use Rattle.scope.specs.Area.{twos_complement}
 use Rattle.measuring.proofs.Complement.{wrapped-difference}
 use Rattle.measuring.proofs.measure.Goals as goal

@@ -1,5 +1,5 @@
 -- `measuring::put_area` meets its contract: the two stores are the definition's, and past the end both store nothing. Assumes nothing.
-use Rattle.std.proofs.Common.{◌≡◌, suc, ◌+◌, ◌/◌, ◌%◌, ◌^◌, [], ◌∷◌, sym, arith, rules}
+use Rattle.std.proofs.Common.{◌≡◌, suc, ◌+◌, ◌/◌, ◌%◌, ◌^◌, [], ◌∷◌, sym, arith}
 use Rattle.packing.proofs.Laws.{stores-past-the-end}
 use Rattle.measuring.proofs.put_area.Goals as goal
 

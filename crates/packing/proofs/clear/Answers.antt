@@ -1,13 +1,16 @@
 -- `packing::clear` meets its contract. The loop's invariant is `ClearedTo`: the words so far are cleared, and clearing up to the end is what is asked.
 -- The measure is what is left up to the end. Assumes nothing.
-use Prim.Native.Nat.{◌-◌}
-use mathlib.Core.Logic.{⊎_elim}
 use native.Mathlib.Omega.{arith}
-use Rattle.packing.proofs.Walks.{ClearedTo, cleared-asked, cleared-all, cleared-room, cleared-next, cleared-end}
+use Rattle.packing.proofs.Walks.{cleared-asked, cleared-all, cleared-room, cleared-next, cleared-end}
 use Rattle.packing.proofs.clear.Goals as goal
+use Rattle.packing.proofs.clear.Goals.{then-words-table, else-words-table}
 
 pub loop-i-init : goal.loop-i-init
-loop-i-init c = ⊎_elim (λ w. cleared-asked w.0.taken w.1) (λ w. cleared-all w.0.left w.1) c.if-words-table.branch
+loop-i-init c =
+    elim c.if-words-table.branch [
+      | then-words-table w ↦ cleared-asked w.if-words-table.true w.end-is
+      | else-words-table w ↦ cleared-all w.if-words-table.false w.end-is
+    ]
 
 pub offset_bounds-table-i : goal.offset_bounds-table-i
 offset_bounds-table-i c = omega (arith, cleared-room c.loop-i.invariant)

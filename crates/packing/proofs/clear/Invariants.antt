@@ -1,9 +1,7 @@
 -- `packing::clear` meets its contract. The loop's invariant is `ClearedTo`: the words so far are cleared, and clearing up to the end is what is asked.
 -- The measure is what is left up to the end. Assumes nothing.
 use Prim.Native.Nat.{◌-◌}
-use mathlib.Core.Logic.{⊎_elim}
-use native.Mathlib.Omega.{arith}
-use Rattle.packing.proofs.Walks.{ClearedTo, cleared-asked, cleared-all, cleared-room, cleared-next, cleared-end}
+use Rattle.packing.proofs.Walks.{ClearedTo}
 use Rattle.packing.proofs.clear.Given as goal
 
 abbrev pub invariant-loop-i : goal.invariant-loop-i

@@ -1,5 +1,4 @@
 -- `packing::next_link` meets its contract: the code reads the word that the definition reads. Assumes nothing.
-use borrow.Author.Rules.{rules}
 use Rattle.machine.specs.Machine.{link_next}
 use Rattle.packing.proofs.next_link.Goals as goal
 

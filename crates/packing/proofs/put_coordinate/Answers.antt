@@ -1,7 +1,6 @@
 -- `packing::put_coordinate` meets its contract: past the end a list stores nothing. Assumes nothing.
 use mathlib.Core.Path.{sym}
 use lib.Seq.{set_out}
-use borrow.Author.Rules.{rules}
 use Rattle.packing.proofs.put_coordinate.Goals as goal
 
 pub returns-else-i-points : goal.returns-else-i-points

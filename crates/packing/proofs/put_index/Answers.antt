@@ -4,7 +4,6 @@ use native.Mathlib.Numerals.{add-one}
 use Rattle.scope.specs.Cells.{indexed_point}
 use Rattle.machine.specs.Walk.{index_words}
 use Rattle.packing.proofs.Laws.{stores-past-the-end}
-use borrow.Author.Rules.{rules}
 use Rattle.packing.proofs.put_index.Goals as goal
 
 pub returns-then-at-points : goal.returns-then-at-points

@@ -1,7 +1,6 @@
 -- `packing::put_point` meets its contract: the word that it reads is the link's start point. Assumes nothing.
 use Rattle.machine.specs.Machine.{link_point}
 use Rattle.machine.specs.Walk.{point_words}
-use borrow.Author.Rules.{rules}
 use Rattle.packing.proofs.put_point.Goals as goal
 
 pub returns : goal.returns

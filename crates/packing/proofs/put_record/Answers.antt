@@ -5,7 +5,6 @@ use native.Mathlib.Omega.{arith}
 use Rattle.scope.specs.Limits.{no_owner}
 use Rattle.machine.specs.Walk.{record_words}
 use Rattle.packing.proofs.Laws.{stores-past-the-end}
-use borrow.Author.Rules.{rules}
 use Rattle.packing.proofs.put_record.Goals as goal
 
 pub returns-then-at-directory : goal.returns-then-at-directory

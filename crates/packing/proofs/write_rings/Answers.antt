@@ -2,12 +2,11 @@
 -- walked leaves what is asked. The measure is the number of links not yet walked. Assumes nothing.
 use mathlib.Core.Path.{refl}
 use native.Mathlib.Omega.{arith}
-use lib.IntN.{ℤ, pos}
-use borrow.Author.Rules.{rules}
+use lib.IntN.{pos}
 use Rattle.machine.specs.Machine.{mark}
 use Rattle.machine.specs.Walk.{index_words, point_words, record_words}
-use Rattle.packing.proofs.Walks.{PointsLeft, points-begin, points-next, points-closed, points-end}
-use Rattle.packing.proofs.Walks.{RecordsLeft, short_words, records-begin, records-next, records-closed, records-end, short-end, stored-room}
+use Rattle.packing.proofs.Walks.{points-begin, points-next, points-closed, points-end}
+use Rattle.packing.proofs.Walks.{records-begin, records-next, records-closed, records-end, short-end, stored-room}
 use Rattle.packing.proofs.write_rings.Goals as goal
 
 pub loop-left-init : goal.loop-left-init
@@ -40,4 +39,7 @@ pub shape_of-directory : goal.shape_of-directory
 shape_of-directory c = stored-room c.loop-left.invariant.1.1.so_far
 
 pub returns : goal.returns
-returns c = (points-end c.loop-left.invariant.0 c.loop-left-test.false, short-end _ _ _ _ (records-end c.loop-left.invariant.1.1 c.loop-left-test.false))
+returns c = record {
+  points_after = points-end c.loop-left.invariant.0 c.loop-left-test.false;
+  directory_after = short-end _ _ _ _ (records-end c.loop-left.invariant.1.1 c.loop-left-test.false);
+}

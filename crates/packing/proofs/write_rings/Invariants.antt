@@ -1,13 +1,9 @@
 -- `packing::write_rings` meets its contract. The loop's invariant is `PointsLeft` with `RecordsLeft`: storing the points and the records of the links not yet
 -- walked leaves what is asked. The measure is the number of links not yet walked. Assumes nothing.
-use mathlib.Core.Path.{refl}
-use native.Mathlib.Omega.{arith}
-use lib.IntN.{ℤ, pos}
-use borrow.Author.Rules.{rules}
-use Rattle.machine.specs.Machine.{mark}
-use Rattle.machine.specs.Walk.{index_words, point_words, record_words}
-use Rattle.packing.proofs.Walks.{PointsLeft, points-begin, points-next, points-closed, points-end}
-use Rattle.packing.proofs.Walks.{RecordsLeft, short_words, records-begin, records-next, records-closed, records-end, short-end, stored-room}
+use lib.IntN.{ℤ}
+use Rattle.machine.specs.Walk.{point_words}
+use Rattle.packing.proofs.Walks.{PointsLeft}
+use Rattle.packing.proofs.Walks.{RecordsLeft, short_words}
 use Rattle.packing.proofs.write_rings.Given as goal
 
 abbrev pub invariant-loop-left : goal.invariant-loop-left

@@ -1,5 +1,4 @@
 -- `reading::column_after` meets its contract: the column is the definition's. Assumes nothing.
-use borrow.Author.Rules.{rules}
 use borrow.Author.Tests.{eq-eqb, ne_eqb}
 use Rattle.reading.specs.Parser.{column_after}
 use Rattle.reading.proofs.column_after.Goals as goal

@@ -1,5 +1,4 @@
 -- `reading::end_of` meets its contract: the byte is the definition's. Assumes nothing.
-use borrow.Author.Rules.{rules}
 use borrow.Author.Tests.{eq-eqb, ne_eqb}
 use Rattle.reading.specs.Parser.{end_of}
 use Rattle.reading.proofs.end_of.Goals as goal

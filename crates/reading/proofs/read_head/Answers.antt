@@ -1,5 +1,4 @@
 -- `reading::read_head` meets its contract: three numbers, as the parser reads them. Assumes nothing.
-use borrow.Author.Rules.{rules}
 use Rattle.reading.specs.Parser.{parsed}
 use Rattle.reading.specs.Reads.{HeadRead}
 use Rattle.reading.proofs.Answers.{number-found, number-none}

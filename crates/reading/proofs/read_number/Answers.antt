@@ -2,7 +2,6 @@
 use mathlib.Core.Path.{◌≡◌, sym, ◌∙◌}
 use mathlib.Core.Bool.{true}
 use native.Mathlib.Omega.{arith}
-use borrow.Author.Rules.{rules}
 use Rattle.reading.specs.Parser.{is_digit}
 use Rattle.reading.specs.Reads.{GotNumber, RestRead, NumberRead}
 use Rattle.reading.proofs.Decimals.{digit-bounds, digit-within}

@@ -2,22 +2,18 @@
 -- The measure is what is left of the length. Assumes nothing.
 use mathlib.Core.Path.{◌≡◌, refl, sym, ◌∙◌}
 use mathlib.Core.Bool.{true}
-use Prim.Native.Nat.{◌-◌}
 use native.Mathlib.Omega.{arith}
-use lib.ListN.{length}
-use borrow.Author.Rules.{rules}
-use borrow.Author.Tests.{not-true, not-false}
 use Rattle.scope.specs.Program.{number_limit}
 use Rattle.reading.specs.Parser.{goes_on}
 use Rattle.reading.specs.Reads.{GotNumber, RestRead}
 use Rattle.reading.proofs.Decimals.{goes-on}
-use Rattle.reading.proofs.Places.{Begun, rest-missing, rest_ended, rest-goes-on, rest-faulty}
+use Rattle.reading.proofs.Places.{rest-missing, rest_ended, rest-goes-on, rest-faulty}
 use Rattle.reading.proofs.read_rest.Goals as goal
 use Rattle.reading.proofs.read_rest.Goals.{Else-not-goes_on}
 
 -- past the tests the number goes on with the byte
 on : (c : Else-not-goes_on) → goes_on c.loop-at.value c.wide-digit.result ≡ true
-on c = sym c.goes_on.ensures ∙ not-false _ c.if-not-goes_on.false
+on c = sym c.goes_on.ensures ∙ c.if-not-goes_on.false
 
 pub loop-at-init : goal.loop-at-init
 loop-at-init c = record { within = c.requires; left = refl }
@@ -32,7 +28,7 @@ unfolding RestRead GotNumber
 returns-then-not-goes_on c =
     c.loop-at.invariant.left
     ∙ rest-faulty _ _ _ _ c.loop-at-test.true c.wide-digit.ensures _ (λ same. c.if-b-end.false (sym c.wide-digit.ensures ∙ same))
-    (sym c.goes_on.ensures ∙ not-true _ c.if-not-goes_on.true)
+    (sym c.goes_on.ensures ∙ c.if-not-goes_on.true)
 
 pub overflow_mul-value : goal.overflow_mul-value
 unfolding number_limit

@@ -1,11 +1,7 @@
 -- `reading::read_values` meets its contract. The loop's invariant is `Walked`: the numbers so far stand in the table, and they and what is left give what
 -- the whole does. The measure is how many numbers are left. Assumes nothing.
 use Prim.Native.Nat.{◌-◌}
-use native.Mathlib.Omega.{arith}
-use borrow.Author.Rules.{rules}
-use Rattle.reading.specs.Reads.{ValuesRead}
-use Rattle.reading.proofs.Answers.{number-found, number-within, number-none}
-use Rattle.reading.proofs.Walks.{Walked, walked-begin, walked_next, walked-faulty, walked_end}
+use Rattle.reading.proofs.Walks.{Walked}
 use Rattle.reading.proofs.read_values.Given as goal
 
 abbrev pub invariant-loop-k : goal.invariant-loop-k

@@ -1,5 +1,4 @@
 -- `reading::sides_fit` meets its contract: its tests are those of the definition. Assumes nothing.
-use borrow.Author.Rules.{rules}
 use Rattle.reading.specs.Parser.{sides_fit}
 use Rattle.reading.proofs.sides_fit.Goals as goal
 

@@ -1,5 +1,4 @@
 -- `ringset::record_faulty` meets its contract: a record is refused for its ring or for its owner. Assumes nothing.
-use borrow.Author.Rules.{rules}
 use Rattle.ringset.proofs.OneRecord.{shape-decides, owner-decides}
 use Rattle.ringset.proofs.record_faulty.Goals as goal
 

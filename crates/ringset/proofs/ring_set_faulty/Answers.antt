@@ -2,15 +2,14 @@
 -- Assumes nothing.
 use mathlib.Core.Path.{◌≡◌, refl, sym, ap, ◌∙◌}
 use mathlib.Core.Bool.{false}
-use Prim.Native.Nat.{◌≤◌, ◌-◌, ◌*◌}
+use Prim.Native.Nat.{◌*◌}
 use native.Mathlib.Nat.{le_antisymm}
 use native.Mathlib.Omega.{arith}
 use lib.ListN.{length}
-use borrow.Author.Rules.{rules}
 use borrow.Author.Tests.{lt-ltb, le-ltb}
 use Rattle.scope.specs.Limits.{record_stride}
 use Rattle.scope.specs.Room.{directory_words}
-use Rattle.scope.specs.GeoJson.{record_refused, any_below, directory_short, ring_set_refused}
+use Rattle.scope.specs.GeoJson.{any_below, directory_short, ring_set_refused}
 use Rattle.ringset.proofs.Below.{some_below, below_next}
 use Rattle.ringset.proofs.ring_set_faulty.Goals as goal
 use Rattle.ringset.proofs.ring_set_faulty.Goals.{Else-directory-rings}

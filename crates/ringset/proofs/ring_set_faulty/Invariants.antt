@@ -1,17 +1,9 @@
 -- `ringset::ring_set_faulty` meets its contract. The loop's invariant: no record before k is refused. The measure is the number of records left.
 -- Assumes nothing.
-use mathlib.Core.Path.{◌≡◌, refl, sym, ap, ◌∙◌}
+use mathlib.Core.Path.{◌≡◌}
 use mathlib.Core.Bool.{false}
-use Prim.Native.Nat.{◌≤◌, ◌-◌, ◌*◌}
-use native.Mathlib.Nat.{le_antisymm}
-use native.Mathlib.Omega.{arith}
-use lib.ListN.{length}
-use borrow.Author.Rules.{rules}
-use borrow.Author.Tests.{lt-ltb, le-ltb}
-use Rattle.scope.specs.Limits.{record_stride}
-use Rattle.scope.specs.Room.{directory_words}
-use Rattle.scope.specs.GeoJson.{record_refused, any_below, directory_short, ring_set_refused}
-use Rattle.ringset.proofs.Below.{some_below, below_next}
+use Prim.Native.Nat.{◌≤◌, ◌-◌}
+use Rattle.scope.specs.GeoJson.{record_refused, any_below}
 use Rattle.ringset.proofs.ring_set_faulty.Given as goal
 
 abbrev pub invariant-loop-k : goal.invariant-loop-k

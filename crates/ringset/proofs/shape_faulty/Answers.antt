@@ -1,6 +1,5 @@
 -- `ringset::shape_faulty` meets its contract: each test is one of the definition's, and the part of the points is the record's words. Assumes nothing.
 use native.Mathlib.Omega.{arith}
-use borrow.Author.Rules.{rules}
 use Rattle.scope.specs.Limits.{point_limit}
 use Rattle.ringset.proofs.Judged.{too_few, too_many, outside, too-high, not-closed, another-area, class-decides}
 use Rattle.ringset.proofs.shape_faulty.Goals as goal

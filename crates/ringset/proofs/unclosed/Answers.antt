@@ -1,6 +1,5 @@
 -- `ringset::unclosed` meets its contract: the last point is that of the last two words. Assumes nothing.
 use native.Mathlib.Omega.{arith}
-use borrow.Author.Rules.{rules}
 use Rattle.ringset.proofs.Words.{unclosed-by-words}
 use Rattle.ringset.proofs.unclosed.Goals as goal
 

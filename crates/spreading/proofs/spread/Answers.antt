@@ -1,7 +1,6 @@
 -- `spreading::spread` meets its contract. The loop's invariant is `SpreadTo`; the measure is the number of records that are left. Assumes nothing.
-use Prim.Native.Nat.{◌^◌, ◌<◌}
 use native.Mathlib.Omega.{arith}
-use Rattle.spreading.proofs.Stores.{SpreadTo, spread-begin, spread-next, spread_end}
+use Rattle.spreading.proofs.Stores.{spread-begin, spread-next, spread_end}
 use Rattle.spreading.proofs.spread.Goals as goal
 
 pub loop-k-init : goal.loop-k-init

@@ -1,5 +1,4 @@
 -- `words::eight` meets its contract: in each arm the literal stands for the rule's number. Assumes nothing.
-use borrow.Author.Rules.{rules}
 use Rattle.words.proofs.Ruled.{by_zero, by_one}
 use Rattle.words.proofs.eight.Goals as goal
 

@@ -1,5 +1,4 @@
 -- `words::eight_known` meets its contract: each part of the sum is its sample's, at most its weight, and the eight together are the packed samples. Assumes nothing.
-use borrow.Author.Rules.{rules}
 use Rattle.scope.specs.Terrain.{above_at}
 use Rattle.cells.specs.Rules.{level_of}
 use Rattle.words.proofs.Packing.{eight-samples}

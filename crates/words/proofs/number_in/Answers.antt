@@ -1,5 +1,4 @@
 -- `words::number_in` meets its contract: each corner is the definition's bit, by the contracts of `bit_at` and `cell_number`. Assumes nothing.
-use borrow.Author.Rules.{rules}
 use Rattle.words.specs.Panes.{number_in}
 use Rattle.words.proofs.number_in.Goals as goal
 

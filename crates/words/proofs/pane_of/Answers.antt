@@ -1,5 +1,4 @@
 -- `words::pane_of` meets its contract: the two left words are the definition's by `one_left`'s contract. Assumes nothing.
-use borrow.Author.Rules.{rules}
 use Rattle.words.specs.Panes.{pane_of}
 use Rattle.words.proofs.pane_of.Goals as goal
 

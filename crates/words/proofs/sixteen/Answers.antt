@@ -1,7 +1,6 @@
 -- `words::sixteen` meets its contract: two halves of eight samples are the whole, and fit a word. Assumes nothing.
 use Prim.Native.Nat.{◌+◌}
 use native.Mathlib.Omega.{arith}
-use borrow.Author.Rules.{rules}
 use Rattle.scope.specs.Terrain.{above_at}
 use Rattle.cells.specs.Rules.{level_of}
 use Rattle.words.proofs.Packing.{halves, half-small}

@@ -1,5 +1,4 @@
 -- `words::whole_word` meets its contract: in each arm the literal stands for the number of the level's rule. Assumes nothing.
-use borrow.Author.Rules.{rules}
 use Rattle.words.proofs.Ruled.{by_zero, by_one, by-its-number}
 use Rattle.words.proofs.whole_word.Goals as goal
 

@@ -2,12 +2,9 @@
 -- In the second loop `left` is a number of whole eights. The measure of both is `left`. Assumes nothing.
 use mathlib.Core.Path.{◌≡◌}
 use Prim.Native.Nat.{◌%◌}
-use native.Mathlib.Omega.{arith}
-use borrow.Author.Rules.{rules}
 use Rattle.scope.specs.Terrain.{above_at}
 use Rattle.cells.specs.Rules.{level_of}
-use Rattle.words.proofs.Ruled.{by-its-number}
-use Rattle.words.proofs.Packing.{Holds, holds-none, holds_more, holds-one, holds_fits, holds-room, holds-all}
+use Rattle.words.proofs.Packing.{Holds}
 use Rattle.words.proofs.word_of.Given as goal
 
 abbrev pub invariant-loop-left : goal.invariant-loop-left
