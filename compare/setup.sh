@@ -58,7 +58,7 @@ unpack_x86_64_std() {
 place_library() {
     local library=${CONTOUR_C_LIB:-}
     if [ -z "$library" ]; then
-        (cd "$root" && rt staticlib contour_c)
+        "$root/tools/staticlib"
         library=$root/target/staticlib/libcontour_c.a
     fi
     mkdir -p "$build/lib"

@@ -21,7 +21,7 @@ library_sources() {
     (
         cd "$root"
         rt version
-        find crates.txt crates -type f \( -name '*.rt' -o -name '*.antt' -o -name crates.txt \) -print0 |
+        find crates.txt crates -name out -prune -o -type f \( -name '*.rt' -o -name '*.antt' -o -name crates.txt \) -print0 |
             LC_ALL=C sort -z | xargs -0 sha256sum | sha256sum
     )
 }
@@ -39,10 +39,15 @@ needed_crates() {
         END { visit("contour_c") }' "$root/crates.txt"
 }
 
-# Whether a crate looks as if it had to be proved: it never was, or a file of it is newer.
+# Whether a crate looks as if it had to be proved: it never was, or a file of it is newer than what was made of it.
 looks_unproved() {
-    local stamp=$root/target/stamp/$1
-    [ ! -f "$stamp" ] || [ -n "$(find "$root/crates/$1" -newer "$stamp" -name '*.*t' -print -quit)" ]
+    local out=$root/crates/$1/out made
+    for made in "$out/rlib/$1.rlib" "$out/lib$1.a"; do
+        if [ -e "$made" ]; then
+            [ -n "$(find "$root/crates/$1" -path "$out" -prune -o -newer "$made" -name '*.*t' -print -quit)" ]
+            return
+        fi
+    done
 }
 
 # Sets, for each crate, $weights to what proving it takes and $due to the same if that is to be done, else 0. The
@@ -70,41 +75,35 @@ in_words() {
 
 # Reads what rt says while it proves, and prints a line for each crate that it proves or does not. A file has it all.
 show_progress() {
-    local log=$1 crate line began=$SECONDS took count=0 left=0 spent=0
+    local log=$1 crate=contour_c line began=$SECONDS took count=0 left=0 spent=0
     local -A weights due
     weigh_crates
     for crate in "${!due[@]}"; do
         left=$((left + due[$crate]))
+        [ "${due[$crate]}" != 0 ] || count=$((count + 1))
     done
-    # Writing the library proves its own crate once more.
-    left=$((left + weights[contour_c]))
     while IFS= read -r line; do
         echo "$line" >>"$log"
-        crate=${line#rt: } crate=${crate%% *}
         case $line in
-        "rt: "*" proved (unchanged"*) count=$((count + 1)) left=$((left - due[$crate])) ;;
-        "rt: "*" proved ("*)
-            count=$((count + 1)) left=$((left - due[$crate])) spent=$((spent + weights[$crate]))
+        "rt: chose --jobs "*) crate=${line##* } ;;
+        "logic=proved "*)
+            [ "${due[$crate]:-0}" = 0 ] || count=$((count + 1))
+            left=$((left - ${due[$crate]:-0})) spent=$((spent + ${weights[$crate]:-0})) due[$crate]=0
             took=$((SECONDS - began))
-            echo "proved $crate, $count of ${#due[@]} crates, $(in_words $(((took > 0 ? took : 1) * left / spent)))"
+            echo "proved $crate, $count of ${#due[@]} crates, $(in_words $(((took > 0 ? took : 1) * left / (spent > 0 ? spent : 1))))"
             ;;
-        "rt: "*"NOT PROVED"* | "rt: FAILED"*) echo "$line" ;;
+        "logic=not-proved"*) echo "$crate is not proved" ;;
         esac
     done
 }
 
-# Proves the library on all cores, and writes it.
+# Proves the library and writes it.
 prove_library() {
     local log=$build/proving.log
     : >"$log"
     echo "proving the library; the first time that takes some minutes"
-    (cd "$root" && rt check contour_c 2>&1) | show_progress "$log" || {
+    "$root/tools/staticlib" 2>&1 | show_progress "$log" || {
         echo "the library is not proved; $log has what was said" >&2
-        return 1
-    }
-    echo "writing target/staticlib/libcontour_c.a, for which contour_c is proved once more"
-    (cd "$root" && rt staticlib contour_c) >>"$log" 2>&1 || {
-        tail -n 20 "$log" >&2
         return 1
     }
 }

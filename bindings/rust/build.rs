@@ -1,4 +1,4 @@
-//! Links with libcontour_c.a in the folder CONTOUR_C_FOLDER, or where `rt staticlib contour_c` writes it. Where
+//! Links with libcontour_c.a in the folder CONTOUR_C_FOLDER, or where `tools/staticlib` writes it. Where
 //! it is missing, or for another processor, the build ends with a sentence.
 
 use std::env;
@@ -15,7 +15,7 @@ fn main() {
     }
     if !library.is_file() {
         stop(&format!(
-            "there is no file {}. 'rt staticlib contour_c' writes the library into target/staticlib of the \
+            "there is no file {}. 'tools/staticlib' writes the library into target/staticlib of the \
              repository, and './install PREFIX' into PREFIX/lib; CONTOUR_C_FOLDER=FOLDER names the folder that \
              it is in",
             library.display()

@@ -1,15 +1,14 @@
 -- A new link, and a link that learns of it: what the link table then holds, and the chains that come of it. Assumes nothing.
-use mathlib.Core.Path.{◌≡◌, refl, sym, ◌∙◌, ap, ap₂, subst}
-use mathlib.Core.List.{List, [], ◌∷◌, ◌++◌, map, append_assoc}
-use Prim.Native.Nat.{ℕ, zero, suc, ◌+◌, ◌*◌, ◌≤◌, ◌<◌}
-use native.Mathlib.Omega.{arith}
-use lib.ListN.{length, length-set}
-use Rattle.scope.specs.Cells.{Point, indexed_point}
+use mathlib.Core.Path.{◌≡◌, refl, sym, ◌∙◌, ap, ap₂}
+use mathlib.Core.List.{List, [], ◌∷◌, ◌++◌, append_assoc}
+use Prim.Native.Nat.{ℕ, ◌+◌, ◌*◌, ◌≤◌, ◌<◌}
+use lib.ListN.{length}
+use Rattle.scope.specs.Cells.{indexed_point}
 use Rattle.scope.specs.Stitching.{Line}
 use Rattle.machine.specs.Machine.{link_point, link_next, with_next, with_link}
-use Rattle.machine.proofs.Views.{Slot, length-with_next, length-with_link, point-of-with_next, next-of-same, next-of-other, point-of-new, point-of-old, next-of-new, next-of-old}
-use Rattle.machine.proofs.Chains.{Linked, uses, uses-first, uses-last, linked-but-last, linked-still, linked-join}
-use Rattle.machine.proofs.Held.{spelled, spelled-still, HeldLine, HeldRing, Still}
+use Rattle.machine.proofs.Views.{length-with_next, length-with_link, point-of-with_next, next-of-same, next-of-other, point-of-new, point-of-old, next-of-new, next-of-old}
+use Rattle.machine.proofs.Chains.{Linked, uses, linked-but-last, linked-join}
+use Rattle.machine.proofs.Held.{spelled, spelled-still}
 
 pub spelled-append : (dx : ℕ) (links c c' : List ℕ) → spelled dx links (c ++ c') ≡ spelled dx links c ++ spelled dx links c'
 unfolding spelled

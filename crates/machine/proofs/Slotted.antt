@@ -1,14 +1,12 @@
 -- The slots as a caller reads them who knows the open lines alone: the columns of each line's tips and its size. They follow from held lines whose tips lie on
 -- columns, and stay where the tables agree past the frontier. Assumes nothing.
-use mathlib.Core.Path.{◌≡◌, sym, ◌∙◌, ap, ap₂}
+use mathlib.Core.Path.{◌≡◌, sym, ◌∙◌, ap}
 use mathlib.Core.List.{List, []}
-use Prim.Native.Nat.{ℕ, ◌+◌, ◌*◌, ◌%◌, ◌≤◌, ◌<◌}
+use Prim.Native.Nat.{ℕ, ◌+◌, ◌*◌, ◌≤◌, ◌<◌}
 use native.Mathlib.Omega.{arith}
 use lib.ListN.{length, get_or}
-use Rattle.scope.specs.Cells.{Point}
 use Rattle.scope.specs.Stitching.{Line}
 use Rattle.laws.proofs.Strokes.{begin, finish}
-use Rattle.laws.proofs.Tips.{Tip}
 use Rattle.laws.proofs.Sizes.{size}
 use Rattle.laws.proofs.LineWords.{word_by, word_at}
 use Rattle.machine.specs.Machine.{slot_word, column_word, first_link, last_link, end_point, link_count, link_point}

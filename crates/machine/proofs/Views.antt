@@ -1,12 +1,12 @@
 -- What is read of the tables after a store: a slot, a frontier word, a link. Each store changes just the part that it names, as long as it lies inside
 -- the table. Assumes nothing.
-use mathlib.Core.Path.{◌≡◌, refl, sym, ◌∙◌, ap}
+use mathlib.Core.Path.{◌≡◌, ◌∙◌}
 use mathlib.Core.List.{List}
-use Prim.Native.Nat.{ℕ, zero, suc, ◌+◌, ◌-◌, ◌*◌, ◌≤◌, ◌<◌}
+use Prim.Native.Nat.{ℕ, ◌+◌, ◌*◌, ◌≤◌, ◌<◌}
 use native.Mathlib.Omega.{arith}
 use lib.ListN.{length, get_or, set, drop, length-set}
 use lib.Seq.{get_or-set_same, get_or-set_other, drop-set-lt}
-use Rattle.machine.specs.Machine.{slot_word, first_link, last_link, end_point, link_count, link_point, link_next, with_next, with_link, with_slot}
+use Rattle.machine.specs.Machine.{slot_word, first_link, last_link, end_point, link_point, link_next, with_next, with_link, with_slot}
 
 -- the parts of a slot that say which line it holds
 pub record Slot : Type 0 where

@@ -4,7 +4,7 @@
 -- slots, four words each: first link, last link, index of the end point, number of links. Open lines stand in slots 0 to count - 1.
 -- Link table: two words a link: index of the segment's start point, and the next link. The last link of a ring holds the mark, and with it the first
 -- link of the next ring. Assumes nothing.
-use Rattle.std.specs.Prelude.{ℕ, zero, suc, ◌+◌, ◌-◌, ◌*◌, ◌/◌, ◌%◌, ◌^◌, Bool, true, false, cond, List, [], ◌∷◌, eqb, length, get_or, set}
+use Rattle.std.specs.Prelude.{ℕ, suc, ◌+◌, ◌-◌, ◌*◌, ◌/◌, ◌%◌, ◌^◌, cond, List, [], ◌∷◌, eqb, length, get_or, set}
 use Rattle.scope.specs.Terrain.{Sheet}
 use Rattle.scope.specs.Cells.{Side, Left, Right, Top, Bottom, Stroke, ◌⟶◌, point_of, point_index, drawn, cell_number}
 use Rattle.scope.specs.Drawing.{up_to}

@@ -29,6 +29,8 @@ use line_grids::lines_hold;
 use region_grids::regions_hold;
 use ring_grids::rings_hold;
 use side_limits::{grid_refused, list_refused, longest_passes};
+use std::io;
+use std::io::Read;
 use std::num::wrapping_add_u32;
 use tables::{front, word};
 use text::{NUMBERS, TEXT, read_line};
@@ -60,15 +62,12 @@ fn one_if(differs: bool) -> u32 {
 }
 
 // Writes how many grids were replayed and how many differ.
-fn print_replay(grids: u32, differ: u32) {
-    io::print_decimal(1, grids as u64);
-    io::write_all(1, b" grids replayed, ");
-    io::print_decimal(1, differ as u64);
-    io::write_all(1, b" differ\n");
+fn print_replay(rt: &impl Print, grids: u32, differ: u32) -> io::Result<()> {
+    println!(rt; "{grids} grids replayed, {differ} differ")
 }
 
 // Replays all grids of the part that begins at this byte of the text, writes what came of it, and says where the part ends.
-fn replay(part: Part, text: &[u8; TEXT], from: usize) -> usize {
+fn replay(rt: &impl Print, part: Part, text: &[u8; TEXT], from: usize) -> io::Result<usize> {
     let mut numbers = [0u32; NUMBERS];
     let head = read_line(text, from, &mut numbers);
     let grids = grid_count(&numbers);
@@ -80,89 +79,105 @@ fn replay(part: Part, text: &[u8; TEXT], from: usize) -> usize {
         differ = wrapping_add_u32(differ, one_if(!is_same));
         at = line.next;
     }
-    print_replay(grids, differ);
-    at
+    print_replay(rt, grids, differ)?;
+    Ok(at)
 }
 
 // Writes what came of a test.
-fn print_verdict(holds: bool) {
+fn print_verdict(rt: &impl Print, holds: bool) -> io::Result<()> {
     if holds {
-        io::write_all(1, b": as expected\n");
+        println!(rt; ": as expected")
     } else {
-        io::write_all(1, b": DIFFERS\n");
+        println!(rt; ": DIFFERS")
     }
 }
 
 // Writes the sides and the number of values of a grid.
-fn print_sides(values: u32, dx: u32, dy: u32) {
-    io::print_decimal(1, dx as u64);
-    io::write_all(1, b" by ");
-    io::print_decimal(1, dy as u64);
-    io::write_all(1, b" of ");
-    io::print_decimal(1, values as u64);
+fn print_sides(rt: &impl Print, values: u32, dx: u32, dy: u32) -> io::Result<()> {
+    print!(rt; "{dx} by {dy} of {values}")
 }
 
 // Runs sides at the limit that pass, and writes what came of it.
-fn run_longest(build: Build, dx: u32, dy: u32) {
-    print_sides(4096, dx, dy);
-    print_verdict(longest_passes(build, dx, dy));
+fn run_longest(rt: &impl Print, build: Build, dx: u32, dy: u32) -> io::Result<()> {
+    print_sides(rt, 4096, dx, dy)?;
+    print_verdict(rt, longest_passes(build, dx, dy))
 }
 
 // Runs sides and a number of values that are refused by this number, and writes what came of it.
-fn run_refused(build: Build, code: u32, values: u32, dx: u32, dy: u32) {
-    print_sides(values, dx, dy);
-    print_verdict(grid_refused(build, code, values as usize, dx as usize, dy as usize));
+fn run_refused(
+    rt: &impl Print,
+    build: Build,
+    code: u32,
+    values: u32,
+    dx: u32,
+    dy: u32,
+) -> io::Result<()> {
+    print_sides(rt, values, dx, dy)?;
+    let holds = grid_refused(build, code, values as usize, dx as usize, dy as usize);
+    print_verdict(rt, holds)
 }
 
 // Runs the limits of a side and of the number of values.
-fn run_limits(build: Build) {
-    run_longest(build, 4096, 1);
-    run_longest(build, 1, 4096);
-    run_refused(build, 1, 4097, 4097, 1);
-    run_refused(build, 1, 4097, 1, 4097);
-    run_refused(build, 1, 0, 0, 1);
-    run_refused(build, 1, 0, 1, 0);
-    run_refused(build, 2, 4095, 4096, 1);
-    run_refused(build, 2, 4097, 4096, 1);
+fn run_limits(rt: &impl Print, build: Build) -> io::Result<()> {
+    run_longest(rt, build, 4096, 1)?;
+    run_longest(rt, build, 1, 4096)?;
+    run_refused(rt, build, 1, 4097, 4097, 1)?;
+    run_refused(rt, build, 1, 4097, 1, 4097)?;
+    run_refused(rt, build, 1, 0, 0, 1)?;
+    run_refused(rt, build, 1, 0, 1, 0)?;
+    run_refused(rt, build, 2, 4095, 4096, 1)?;
+    run_refused(rt, build, 2, 4097, 4096, 1)
 }
 
 // Runs a list of this many thresholds without the pair that is asked for, and writes what came of it.
-fn run_list(code: u32, length: u32, k: usize) {
-    io::print_decimal(1, length as u64);
-    io::write_all(1, b" thresholds");
-    print_verdict(list_refused(code, length as usize, k));
+fn run_list(rt: &impl Print, code: u32, length: u32, k: usize) -> io::Result<()> {
+    print!(rt; "{length} thresholds")?;
+    print_verdict(rt, list_refused(code, length as usize, k))
 }
 
 // Replays the three parts of a text of this many bytes.
-fn replay_text(text: &[u8; TEXT], length: usize) {
-    io::write_all(1, b"rings: ");
-    let regions = replay(Part::Rings, text, 0);
-    io::write_all(1, b"contours and bands: ");
-    let lines = replay(Part::Regions, text, regions);
-    io::write_all(1, b"lines: ");
-    let end = replay(Part::Lines, text, lines);
-    io::write_all(1, b"the text ends with the last grid");
-    print_verdict(end == length);
+fn replay_text(rt: &impl Print, text: &[u8; TEXT], length: usize) -> io::Result<()> {
+    print!(rt; "rings: ")?;
+    let regions = replay(rt, Part::Rings, text, 0)?;
+    print!(rt; "contours and bands: ")?;
+    let lines = replay(rt, Part::Regions, text, regions)?;
+    print!(rt; "lines: ")?;
+    let end = replay(rt, Part::Lines, text, lines)?;
+    print!(rt; "the text ends with the last grid")?;
+    print_verdict(rt, end == length)
+}
+
+// Reads until the bytes are full or the input ends, and says how many it has read.
+fn read_full(input: &mut impl Read, bytes: &mut [u8]) -> io::Result<usize> {
+    let mut done: usize = 0;
+    while done < bytes.len() {
+        let n = input.read(&mut bytes[done..])?;
+        if n == 0 {
+            break;
+        }
+        done += n;
+    }
+    Ok(done)
 }
 
 // Reads standard input and replays it.
-fn run_text(text: &mut [u8; TEXT]) {
-    let length = io::read_full(0, text);
-    replay_text(text, length);
+fn run_text(rt: &HostRuntime, text: &mut [u8; TEXT]) -> io::Result<()> {
+    let length = read_full(&mut rt.stdin(), text)?;
+    replay_text(rt, text, length)
 }
 
-fn main() {
+fn main(rt: HostRuntime) -> io::Result<()> {
     let mut text = [0u8; TEXT];
-    run_text(&mut text);
-    io::write_all(1, b"rings\n");
-    run_limits(Build::Rings);
-    io::write_all(1, b"contours\n");
-    run_limits(Build::Contour);
-    io::write_all(1, b"bands\n");
-    run_limits(Build::Band);
-    run_list(3, 0, 0);
-    run_list(3, 1, 0);
-    run_list(4, 2, 1);
-    io::write_all(1, b"lines\n");
-    run_limits(Build::Lines);
+    run_text(&rt, &mut text)?;
+    println!(rt; "rings")?;
+    run_limits(&rt, Build::Rings)?;
+    println!(rt; "contours")?;
+    run_limits(&rt, Build::Contour)?;
+    println!(rt; "bands")?;
+    run_limits(&rt, Build::Band)?;
+    run_list(&rt, 3, 0, 0)?;
+    run_list(&rt, 3, 1, 0)?;
+    run_list(&rt, 4, 2, 1)?;
+    println!(rt; "lines")?;
+    run_limits(&rt, Build::Lines)
 }

@@ -1,7 +1,7 @@
 -- Sixty-four cells at once: the counts after them by how many of them draw one segment and two, and leave one open line more and one fewer, where the
 -- peak cannot rise among them. A cell's part is computed over its sixteen numbers; the sums go by induction on the cells. Assumes nothing.
 use mathlib.Core.Path.{◌≡◌, refl, sym, ◌∙◌, ap}
-use mathlib.Core.Bool.{Bool, true, false, ◌||◌}
+use mathlib.Core.Bool.{Bool, false, ◌||◌}
 use Prim.Native.Nat.{ℕ, zero, suc, ◌+◌, ◌-◌, ◌≤◌, ◌<◌, max}
 use native.Mathlib.Nat.{add-zero, add-suc, max-eq_left}
 use native.Mathlib.Decide.{dec_lt}

@@ -10,11 +10,11 @@ use Rattle.bands.proofs.band_pass.Goals as goal
 
 pub scan-below-requires : goal.scan-below-requires
 scan-below-requires c =
-    (a-grid-that-fits-is-sized _ _ _ c.requires.0, c.requires.1)
+    record { sized = a-grid-that-fits-is-sized _ _ _ c.requires.0; marks_len = c.requires.1 }
 
 pub scan-above-requires : goal.scan-above-requires
 scan-above-requires c =
-    (a-grid-that-fits-is-sized _ _ _ c.requires.0, refl)
+    record { sized = a-grid-that-fits-is-sized _ _ _ c.requires.0; marks_len = refl }
 
 pub open_words-requires : goal.open_words-requires
 open_words-requires c =
@@ -22,29 +22,29 @@ open_words-requires c =
 
 pub returns-then-lines-open_words : goal.returns-then-lines-open_words
 returns-then-lines-open_words c =
-    let need = open-need _ _ _ _ _ c.scan-below.ensures.0 c.scan-above.ensures.0 c.open_words.ensures c.larger-peak.ensures in
-    lines-short _ _ _ _ _ _ _ _ c.scan-below.ensures.1 (omega (arith, need))
+    let need = open-need _ _ _ _ _ c.scan-below.ensures.value c.scan-above.ensures.value c.open_words.ensures c.larger-peak.ensures in
+    lines-short _ _ _ _ _ _ _ _ c.scan-below.ensures.marked (omega (arith, need))
 
 pub returns-then-links-link_words : goal.returns-then-links-link_words
 returns-then-links-link_words c =
-    let need = open-need _ _ _ _ _ c.scan-below.ensures.0 c.scan-above.ensures.0 c.open_words.ensures c.larger-peak.ensures in
-    let most = link-need _ _ _ _ _ c.scan-below.ensures.0 c.scan-above.ensures.0 c.link_words.ensures c.larger.ensures in
-    links-short _ _ _ _ _ _ _ _ c.scan-below.ensures.1 (omega (arith, need, c.if-lines-open_words.false)) (omega (arith, most))
+    let need = open-need _ _ _ _ _ c.scan-below.ensures.value c.scan-above.ensures.value c.open_words.ensures c.larger-peak.ensures in
+    let most = link-need _ _ _ _ _ c.scan-below.ensures.value c.scan-above.ensures.value c.link_words.ensures c.larger.ensures in
+    links-short _ _ _ _ _ _ _ _ c.scan-below.ensures.marked (omega (arith, need, c.if-lines-open_words.false)) (omega (arith, most))
 
 pub stitch-first-requires : goal.stitch-first-requires
 stitch-first-requires c =
-    (a-grid-that-fits-is-sized _ _ _ c.requires.0, c.scan-below.ensures.1)
+    record { sized = a-grid-that-fits-is-sized _ _ _ c.requires.0; marked = c.scan-below.ensures.marked }
 
 pub stitch-second-requires : goal.stitch-second-requires
 stitch-second-requires c =
-    (a-grid-that-fits-is-sized _ _ _ c.requires.0, c.scan-above.ensures.1)
+    record { sized = a-grid-that-fits-is-sized _ _ _ c.requires.0; marked = c.scan-above.ensures.marked }
 
 pub returns : goal.returns
 unfolding scanned
 returns c =
-    let need = open-need _ _ _ _ _ c.scan-below.ensures.0 c.scan-above.ensures.0 c.open_words.ensures c.larger-peak.ensures in
-    let most = link-need _ _ _ _ _ c.scan-below.ensures.0 c.scan-above.ensures.0 c.link_words.ensures c.larger.ensures in
-    rw (c.larger-peak.ensures, c.scan-below.ensures.0, c.scan-above.ensures.0)
+    let need = open-need _ _ _ _ _ c.scan-below.ensures.value c.scan-above.ensures.value c.open_words.ensures c.larger-peak.ensures in
+    let most = link-need _ _ _ _ _ c.scan-below.ensures.value c.scan-above.ensures.value c.link_words.ensures c.larger.ensures in
+    rw (c.larger-peak.ensures, c.scan-below.ensures.value, c.scan-above.ensures.value)
     (done c.args.values.now c.args.lower c.args.upper c.args.dx c.args.dy c.args.lines.now c.args.links.now _
-    c.scan-below.ensures.1 (omega (arith, need, c.if-lines-open_words.false)) (omega (arith, most, c.if-links-link_words.false))
+    c.scan-below.ensures.marked (omega (arith, need, c.if-lines-open_words.false)) (omega (arith, most, c.if-links-link_words.false))
     (a-grid-that-fits-is-sized _ _ _ c.requires.0) _ _ _ _ _ _ c.stitch-first.ensures c.stitch-second.ensures)

@@ -5,4 +5,4 @@ use borrow.Author.Rules.{rules}
 use Rattle.bands.proofs.counts_of.Goals as goal
 
 pub scan-requires : goal.scan-requires
-scan-requires c = (a-grid-that-fits-is-sized _ _ _ c.requires, refl)
+scan-requires c = record { sized = a-grid-that-fits-is-sized _ _ _ c.requires; marks_len = refl }

@@ -1,7 +1,7 @@
 -- `drawing::draw_cell` meets its contract: each arm draws the strokes that the case table has for its number, and the numbers that are left have none.
 -- Assumes nothing.
 use mathlib.Core.Path.{refl, ap}
-use borrow.Author.Rules.{rules}
+use native.Mathlib.Omega.{arith}
 use Rattle.scope.specs.Cells.{case_table, drawn}
 use Rattle.cells.specs.Sides.{stroke_at}
 use Rattle.machine.specs.Machine.{Run}
@@ -10,11 +10,11 @@ use Rattle.drawing.proofs.draw_cell.Goals as goal
 
 pub draw_stroke-requires-in-5 : goal.draw_stroke-requires-in-5
 draw_stroke-requires-in-5 c =
-    a-second-link-fits _ _ (ap (λ (run : Run). run.next) c.draw_stroke-one.ensures) c.requires.1
+    a-second-link-fits _ _ (ap (λ (run : Run). run.next) c.draw_stroke-one.ensures) c.requires.next_bound
 
 pub draw_stroke-requires-in-10 : goal.draw_stroke-requires-in-10
 draw_stroke-requires-in-10 c =
-    a-second-link-fits _ _ (ap (λ (run : Run). run.next) c.draw_stroke-one-in-10.ensures) c.requires.1
+    a-second-link-fits _ _ (ap (λ (run : Run). run.next) c.draw_stroke-one-in-10.ensures) c.requires.next_bound
 
 pub returns-in-1 : goal.returns-in-1
 unfolding case_table drawn stroke_at
@@ -101,4 +101,4 @@ returns-in-14 c =
     c.stroke_at-in-14.ensures c.draw_stroke-in-14.ensures
 
 pub returns-in_default : goal.returns-in_default
-returns-in_default c = no-stroke _ _ _ _ _ c.in-1.rest
+returns-in_default c = no-stroke _ _ _ _ _ (omega arith)

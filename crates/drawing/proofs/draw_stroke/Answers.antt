@@ -1,7 +1,6 @@
 -- `drawing::draw_stroke` meets its contract: each way through the tests is the rule for two sides that are met or not. Assumes nothing.
 use mathlib.Core.Path.{sym, ap, ◌∙◌}
 use Prim.Native.Nat.{ℕ}
-use borrow.Author.Rules.{rules}
 use Rattle.lines.specs.Values.{edges_of}
 use Rattle.drawing.specs.Values.{side_of, point_at, line_at}
 use Rattle.drawing.proofs.Sides.{the-other-side-met}

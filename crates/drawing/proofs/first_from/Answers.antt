@@ -1,6 +1,7 @@
 -- `drawing::first_from` meets its contract: by one computed test over the numbers of each arm, and over those that the arms leave. Assumes nothing.
 use mathlib.Core.List.{List, [], ◌∷◌}
 use Prim.Native.Nat.{ℕ}
+use native.Mathlib.Omega.{arith}
 use Rattle.scope.specs.Cells.{case_table, drawn}
 use Rattle.cells.specs.Sides.{numbered, stroke_at}
 use Rattle.drawing.proofs.FirstStrokes.{at-keys, at_others, none-past-the-table}
@@ -46,4 +47,4 @@ returns-in-7 c = at-keys side arm-5 tt c.args.number c.in-7.is
 
 pub returns-in_default : goal.returns-in_default
 unfolding case_table drawn stroke_at
-returns-in_default c = at_others side (arm-5 ∷ arm-4 ∷ arm-3 ∷ arm-2 ∷ arm-1 ∷ []) tt (λ n h. (none-past-the-table n h).0) c.args.number c.in-1.rest
+returns-in_default c = at_others side (arm-5 ∷ arm-4 ∷ arm-3 ∷ arm-2 ∷ arm-1 ∷ []) tt (λ n h. (none-past-the-table n h).0) c.args.number (omega arith)

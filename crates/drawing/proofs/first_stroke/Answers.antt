@@ -1,5 +1,4 @@
 -- `drawing::first_stroke` meets its contract: the stroke of the two sides. Assumes nothing.
-use borrow.Author.Rules.{rules}
 use Rattle.drawing.proofs.first_stroke.Goals as goal
 
 pub returns : goal.returns

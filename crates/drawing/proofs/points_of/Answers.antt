@@ -1,6 +1,5 @@
 -- `drawing::points_of` meets its contract: each point is the definition's, and the index of a point within the grid fits. Assumes nothing.
 use native.Mathlib.Omega.{arith}
-use borrow.Author.Rules.{rules}
 use Rattle.scope.specs.Limits.{side_limit}
 use Rattle.scope.specs.Cells.{point_of}
 use Rattle.drawing.proofs.Indexes.{index-fits}

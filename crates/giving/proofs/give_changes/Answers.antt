@@ -16,7 +16,7 @@ use Rattle.giving.proofs.give_changes.Goals as goal
 
 pub loop-rest-init : goal.loop-rest-init
 loop-rest-init c =
-    (unseen-begin _ _ _ c.requires.1.0 c.requires.1.1, word-begun _ _ _, refl, refl, refl, refl)
+    (unseen-begin _ _ _ c.requires.shows c.requires.changes_value, word-begun _ _ _, refl, refl, refl, refl)
 
 pub overflow_add-j : goal.overflow_add-j
 overflow_add-j c = omega (arith, (unseen-next _ _ _ c.loop-rest.invariant.0 (λ z. omega arith)).in-word)
@@ -24,7 +24,7 @@ overflow_add-j c = omega (arith, (unseen-next _ _ _ c.loop-rest.invariant.0 (λ 
 pub overflow_add-c : goal.overflow_add-c
 unfolding side_limit
 overflow_add-c c =
-    omega (arith, c.requires.0.columns, c.requires.0.column, (unseen-next _ _ _ c.loop-rest.invariant.0 (λ z. omega arith)).in-word)
+    omega (arith, c.requires.within.columns, c.requires.within.column, (unseen-next _ _ _ c.loop-rest.invariant.0 (λ z. omega arith)).in-word)
 
 pub shape_of-lines-then-dx-c : goal.shape_of-lines-then-dx-c
 shape_of-lines-then-dx-c c = c.loop-rest.invariant.2
@@ -51,7 +51,7 @@ overflow_add-c-in-loop-rest c = add-if1 c
 
 pub give_cell-next-requires : goal.give_cell-next-requires
 give_cell-next-requires c =
-    record { columns = c.requires.0.columns; column = c.if-dx-c.false; row = c.requires.0.row }
+    record { columns = c.requires.within.columns; column = c.if-dx-c.false; row = c.requires.within.row }
 
 pub overflow_cast-rest : goal.overflow_cast-rest
 overflow_cast-rest c =
@@ -77,7 +77,7 @@ loop-rest-preserved c =
       next.unseen-then,
       active-swept _ _ _ (still _ _ _) _ next so_far.1
           (c.give_cell-next.ensures
-          ∙ cell-of _ _ _ _ _ c.if-dx-c.false (c.number_in-number.ensures ∙ number-shown _ _ _ c.requires.1.0 next.in-word)),
+          ∙ cell-of _ _ _ _ _ c.if-dx-c.false (c.number_in-number.ensures ∙ number-shown _ _ _ c.requires.shows next.in-word)),
       kept.0 ∙ so_far.2,
       kept.1.0 ∙ so_far.3,
       kept.1.1.0 ∙ so_far.4,

@@ -11,7 +11,7 @@ use borrow.Author.Rules.{rules}
 use Rattle.isoringbuilder.proofs.pass_over.Goals as goal
 
 pub scan-counts-requires : goal.scan-counts-requires
-scan-counts-requires c = (a-grid-that-fits-is-sized _ _ _ c.requires, refl)
+scan-counts-requires c = record { sized = a-grid-that-fits-is-sized _ _ _ c.requires; marks_len = refl }
 
 pub open_words-requires : goal.open_words-requires
 open_words-requires c = (a-grid-that-fits-is-sized _ _ _ c.requires).columns
@@ -19,25 +19,25 @@ open_words-requires c = (a-grid-that-fits-is-sized _ _ _ c.requires).columns
 pub returns-then-lines-open_words : goal.returns-then-lines-open_words
 unfolding scanned
 returns-then-lines-open_words c =
-    let open-need = c.open_words.ensures ∙ ap (λ (k : Counts). open_words c.args.dx k.peak) c.scan-counts.ensures.0 in
+    let open-need = c.open_words.ensures ∙ ap (λ (k : Counts). open_words c.args.dx k.peak) c.scan-counts.ensures.value in
     lines-short _ _ _ _ _ _ c.requires (omega (arith, open-need))
 
 pub returns-then-links-link_words : goal.returns-then-links-link_words
 unfolding scanned
 returns-then-links-link_words c =
-    let open-need = c.open_words.ensures ∙ ap (λ (k : Counts). open_words c.args.dx k.peak) c.scan-counts.ensures.0 in
-    let link-need = c.link_words.ensures ∙ ap (λ (k : Counts). link_words k.segments) c.scan-counts.ensures.0 in
+    let open-need = c.open_words.ensures ∙ ap (λ (k : Counts). open_words c.args.dx k.peak) c.scan-counts.ensures.value in
+    let link-need = c.link_words.ensures ∙ ap (λ (k : Counts). link_words k.segments) c.scan-counts.ensures.value in
     links-short _ _ _ _ _ _ c.requires (omega (arith, open-need)) (omega (arith, link-need))
 
 pub stitch-progress-requires : goal.stitch-progress-requires
 stitch-progress-requires c =
-    (a-grid-that-fits-is-sized _ _ _ c.requires, c.scan-counts.ensures.1)
+    record { sized = a-grid-that-fits-is-sized _ _ _ c.requires; marked = c.scan-counts.ensures.marked }
 
 pub returns : goal.returns
 unfolding scanned
 returns c =
-    let open-need = c.open_words.ensures ∙ ap (λ (k : Counts). open_words c.args.dx k.peak) c.scan-counts.ensures.0 in
-    let link-need = c.link_words.ensures ∙ ap (λ (k : Counts). link_words k.segments) c.scan-counts.ensures.0 in
-    rw c.scan-counts.ensures.0
+    let open-need = c.open_words.ensures ∙ ap (λ (k : Counts). open_words c.args.dx k.peak) c.scan-counts.ensures.value in
+    let link-need = c.link_words.ensures ∙ ap (λ (k : Counts). link_words k.segments) c.scan-counts.ensures.value in
+    rw c.scan-counts.ensures.value
     (done c.args.values.now c.args.level c.args.dx c.args.dy c.args.lines.now c.args.links.now c.requires
     (omega (arith, open-need, c.if-lines-open_words.false)) (omega (arith, link-need, c.if-links-link_words.false)) _ _ _ c.stitch-progress.ensures)

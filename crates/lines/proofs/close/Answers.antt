@@ -1,6 +1,5 @@
 -- `lines::close` meets its contract: what was read and what was stored, put in for each other from the last store back to the entry, is the
 -- definition. Assumes nothing.
-use borrow.Author.Rules.{rules}
 use Rattle.machine.specs.Machine.{mark, closed, closed_links}
 use Rattle.lines.proofs.close.Goals as goal
 

@@ -1,6 +1,5 @@
 -- `lines::connect` meets its contract: each side of the test is the definition's case, and the rule called is that case's. Assumes nothing.
 use borrow.Author.Tests.{eq-eqb, ne_eqb}
-use borrow.Author.Rules.{rules}
 use Rattle.lines.proofs.connect.Goals as goal
 
 pub returns-then-f-g : goal.returns-then-f-g

@@ -1,5 +1,4 @@
 -- `lines::entry_of` meets its contract: the two reads are the definition's. Assumes nothing.
-use borrow.Author.Rules.{rules}
 use Rattle.machine.specs.Machine.{entry_of}
 use Rattle.lines.proofs.entry_of.Goals as goal
 

@@ -1,6 +1,5 @@
 -- `lines::prepend` meets its contract: what was read and what was stored, put in for each other from the last store back to the entry, is the
 -- definition. Assumes nothing.
-use borrow.Author.Rules.{rules}
 use Rattle.machine.specs.Machine.{prepended}
 use Rattle.lines.proofs.prepend.Goals as goal
 

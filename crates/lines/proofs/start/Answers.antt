@@ -1,5 +1,4 @@
 -- `lines::start` meets its contract: what was stored, put in from the last store back to the entry, is the definition. Assumes nothing.
-use borrow.Author.Rules.{rules}
 use Rattle.machine.specs.Machine.{started}
 use Rattle.lines.proofs.start.Goals as goal
 

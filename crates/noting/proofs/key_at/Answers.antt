@@ -12,4 +12,4 @@ pub returns : goal.returns
 unfolding sort_key
 returns c =
     let same : to_z w64 (of_z w64 c.area_at.result) ≡ c.area_at.result = search rules in
-    ap (λ n. n / 4) (c.type_size.ensures ∙ ap nat_abs (same ∙ c.area_at.ensures))
+    ap (λ n. n / 4) (c.size_of.ensures ∙ ap nat_abs (same ∙ c.area_at.ensures))

@@ -1,8 +1,6 @@
 -- `noting::note_high` meets its contract. The loop's invariant is `HighWalked`: the records so far hold the high parts of their keys. The measure is the number
 -- of records that are left. Assumes nothing.
-use Prim.Native.Nat.{◌-◌}
-use native.Mathlib.Omega.{arith}
-use Rattle.noting.proofs.High.{HighWalked, high-begin, high-asks, high-next, high_end}
+use Rattle.noting.proofs.High.{high-begin, high-asks, high-next, high_end}
 use Rattle.noting.proofs.note_high.Goals as goal
 
 pub loop-r-init : goal.loop-r-init

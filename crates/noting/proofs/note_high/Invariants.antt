@@ -1,8 +1,7 @@
 -- `noting::note_high` meets its contract. The loop's invariant is `HighWalked`: the records so far hold the high parts of their keys. The measure is the number
 -- of records that are left. Assumes nothing.
 use Prim.Native.Nat.{◌-◌}
-use native.Mathlib.Omega.{arith}
-use Rattle.noting.proofs.High.{HighWalked, high-begin, high-asks, high-next, high_end}
+use Rattle.noting.proofs.High.{HighWalked}
 use Rattle.noting.proofs.note_high.Given as goal
 
 abbrev pub invariant-loop-r : goal.invariant-loop-r

@@ -1,15 +1,10 @@
 -- `noting::note_ring` meets its contract: the stores are the definition's. Assumes nothing.
 use mathlib.Core.Path.{refl}
-use Prim.Native.Nat.{◌+◌, ◌*◌}
 use native.Mathlib.Omega.{arith}
 use lib.ListN.{length-set}
-use borrow.Author.Rules.{rules}
 use Rattle.extents.specs.Records.{record_count}
 use Rattle.noting.specs.Step.{record_noted}
 use Rattle.noting.proofs.note_ring.Goals as goal
-
-pub overflow_cast-count : goal.overflow_cast-count
-overflow_cast-count c = omega (arith, c.slice_known-2-1.given (4 * c.args.r + 1))
 
 pub note_at-note-requires : goal.note_at-note-requires
 unfolding record_count

@@ -1,8 +1,7 @@
 -- `noting::note_rings` meets its contract. The loop's invariant is `Walked`: the records so far are noted, and the next ring begins where they end.
 -- The measure is the number of records that are left. Assumes nothing.
 use Prim.Native.Nat.{◌-◌}
-use native.Mathlib.Omega.{arith}
-use Rattle.noting.proofs.Walk.{Walked, walked-begin, walked-asks, walked-few, walked_next, walked_end}
+use Rattle.noting.proofs.Walk.{Walked}
 use Rattle.noting.proofs.note_rings.Given as goal
 
 abbrev pub invariant-loop-r : goal.invariant-loop-r

@@ -1,5 +1,4 @@
 -- `ringrecord::class_word` meets its contract: each arm is given the fate's variant, at which the definition computes. Assumes nothing.
-use borrow.Author.Rules.{rules}
 use Rattle.scope.specs.Contour.{class_word}
 use Rattle.ringrecord.specs.Records.{fate_of}
 use Rattle.ringrecord.proofs.class_word.Goals as goal

@@ -15,11 +15,11 @@ read : (c : Start) → to_z w64 (of_z w64 c.args.area) ≡ c.args.area
 read c = to_z-of_z w64 c.args.area c.ranges.area
 
 flipped : (c : Then-area-lt0) → Flipped c.args.area
-flipped c = below-flipped c.args.area (rw (read c) at c.if-area-lt0.true) c.ranges.area
+flipped c = below-flipped c.args.area (rw (to_z-of_z w64 c.args.area c.ranges.area) at c.if-area-lt0.true) c.ranges.area
 
 -- what the machine takes from -1
 left : (c : Then-area-lt0) → to_z w64 (of_z w64 (negsuc 0 -ℤ to_z w64 (of_z w64 c.args.area))) ≡ pos (flipped c).left_over
-left c = let f = flipped c in rw (read c, f.is-left) (to_z_pos w64 f.left_over f.few)
+left c = let f = flipped c in rw (to_z-of_z w64 c.args.area c.ranges.area, f.is-left) (to_z_pos w64 f.left_over f.few)
 
 pub overflow_sub-left : goal.overflow_sub-left
 overflow_sub-left c = rw (read (goal.at.overflow_sub-left c).Start, (flipped (goal.at.overflow_sub-left c).Then-area-lt0).is-left) (record { sfits = (flipped (goal.at.overflow_sub-left c).Then-area-lt0).few })

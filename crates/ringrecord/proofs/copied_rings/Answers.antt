@@ -1,5 +1,4 @@
 -- `ringrecord::copied_rings` meets its contract: the code's tests are the definition's. Assumes nothing.
-use borrow.Author.Rules.{rules}
 use borrow.Author.Tests.{lt-ltb, le-ltb}
 use Rattle.scope.specs.Limits.{record_stride}
 use Rattle.scope.specs.Room.{directory_words}

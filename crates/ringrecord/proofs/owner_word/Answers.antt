@@ -1,5 +1,4 @@
 -- `ringrecord::owner_word` meets its contract: each arm is given the fate's variant, at which the definition computes. Assumes nothing.
-use borrow.Author.Rules.{rules}
 use Rattle.scope.specs.Limits.{no_owner}
 use Rattle.scope.specs.Contour.{owner_word}
 use Rattle.ringrecord.specs.Records.{fate_of}

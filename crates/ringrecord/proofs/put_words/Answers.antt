@@ -4,7 +4,7 @@ use Prim.Native.Nat.{◌+◌, ◌*◌, suc}
 use native.Mathlib.Omega.{arith}
 use borrow.Author.Rules.{rules}
 use mir.Syntax.{w64}
-use mir.ValLaws.{to_z-of_z}
+use mir.Val.{to_z, of_z}
 use Rattle.scope.specs.Limits.{record_stride}
 use Rattle.scope.specs.Area.{low_word, high_word, area_words}
 use Rattle.scope.specs.Room.{directory_words}
@@ -16,8 +16,7 @@ unfolding words_of area_words low_word high_word directory_words record_stride
 returns c =
     let args = c.args in
     let at = 6 * args.k in
-    let told = c.struct_told-1.given in
-    let same = to_z-of_z w64 args.«record».area (record { sfits = told.1.1.1.0.1 }) in
+    let same : to_z w64 (of_z w64 args.«record».area) ≡ args.«record».area = search rules in
     let second : at + 1 ≡ suc at = omega arith in
     let third : at + 2 ≡ suc (suc at) = omega arith in
     let fourth : at + 3 ≡ suc (suc (suc at)) = omega arith in

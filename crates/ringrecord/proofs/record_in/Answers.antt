@@ -1,5 +1,4 @@
 -- `ringrecord::record_in` meets its contract: the six words are those that the definition reads. Assumes nothing.
-use borrow.Author.Rules.{rules}
 use Rattle.ringrecord.specs.Records.{record_in}
 use Rattle.ringrecord.proofs.record_in.Goals as goal
 

@@ -16,7 +16,7 @@ pub returns-in_default : goal.returns-in_default
 unfolding record_stride
 returns-in_default c =
     refused-after c.args.state c.args.lower.now c.args.lines.now c.args.links.now c.args.points.now c.args.directory.now
-    (omega (arith, c.open_words.ensures)) _ c.trial_of-trial.ensures.0 _ c.trial_of-trial.ensures.1
+    (omega (arith, c.open_words.ensures)) _ c.trial_of-trial.ensures.value _ c.trial_of-trial.ensures.lines_after
     _ c.answer_of-answer.ensures _ c.in_default.is _ c.restore.ensures
 
 pub returns : goal.returns
@@ -24,5 +24,5 @@ unfolding record_stride
 returns c =
     c.draw.ensures
     ∙ taken-after c.args.state c.args.lower.now c.args.lines.now c.args.links.now c.args.points.now c.args.directory.now
-    (omega (arith, c.open_words.ensures)) _ c.trial_of-trial.ensures.0 _ c.trial_of-trial.ensures.1
+    (omega (arith, c.open_words.ensures)) _ c.trial_of-trial.ensures.value _ c.trial_of-trial.ensures.lines_after
     _ c.answer_of-answer.ensures _ c.in-Rings.is

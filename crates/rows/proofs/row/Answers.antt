@@ -23,7 +23,7 @@ pub sample_words-requires : goal.sample_words-requires
 unfolding side_limit
 sample_words-requires c =
     let within = row_within c.args.state.dx c.args.state.dy _ (sym (row-tested _ _ _ c.sides_fit.ensures _) ∙ c.if-sides_fit-state.false) in
-    (record { columns = within.0; rows = omega arith; filled = omega arith }, no-words)
+    record { sized = record { columns = within.0; rows = omega arith; filled = omega arith }; row_value = no-words }
 
 pub advance-requires : goal.advance-requires
 advance-requires c =

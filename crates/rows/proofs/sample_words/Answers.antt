@@ -10,14 +10,14 @@ use Rattle.rows.proofs.Samples.{Sampled, samples-begin, samples-go-on, samples-e
 use Rattle.rows.proofs.sample_words.Goals as goal
 
 pub loop-w-init : goal.loop-w-init
-loop-w-init c = (samples-begin _ (terrain-outside _ _ _ _) c.requires.1, omega arith)
+loop-w-init c = (samples-begin _ (terrain-outside _ _ _ _) c.requires.row_value, omega arith)
 
 pub overflow_mul-w-in-loop-w : goal.overflow_mul-w-in-loop-w
 unfolding side_limit
 overflow_mul-w-in-loop-w c = omega arith
 
 pub lower_word-requires : goal.lower_word-requires
-lower_word-requires c = (c.requires.0, omega arith)
+lower_word-requires c = record { sized = c.requires.sized; c_le_dx = omega arith }
 
 pub offset_bounds-row-w : goal.offset_bounds-row-w
 unfolding side_limit

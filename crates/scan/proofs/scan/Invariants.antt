@@ -1,16 +1,10 @@
 -- `scan::scan` meets its contract. The loop's invariant: the counts and the marks are those after the rows so far, and the words of the next row's upper
 -- samples are kept. The measure is the number of rows left. Assumes nothing.
-use mathlib.Core.Path.{◌≡◌, sym, ◌∙◌}
+use mathlib.Core.Path.{◌≡◌}
 use Prim.Native.Nat.{suc, ◌-◌, ◌≤◌}
-use native.Mathlib.Numerals.{add-one}
-use native.Mathlib.Omega.{arith}
-use Rattle.scope.specs.Limits.{side_limit}
 use Rattle.scope.specs.Terrain.{above_at, terrain}
 use Rattle.scan.specs.Rows.{Kept, Marked}
 use Rattle.scan.specs.Scanned.{counts_after}
-use Rattle.scan.proofs.Samples.{terrain-outside}
-use Rattle.scan.proofs.Rows.{no-words-above, no-row-marked, marked-as-far}
-use Rattle.scan.proofs.Steps.{counts-begin, row_done, counts_end}
 use Rattle.scan.proofs.scan.Given as goal
 
 abbrev pub invariant-loop-r : goal.invariant-loop-r

@@ -1,6 +1,5 @@
 -- `scan::with_cell` meets its contract: a cell opens no more lines than it draws segments, and it draws at most two. Assumes nothing.
 use native.Mathlib.Omega.{arith}
-use borrow.Author.Rules.{rules}
 use Rattle.scope.specs.Cells.{opened}
 use Rattle.cells.proofs.Laws.{a-cell-draws-at-most-two}
 use Rattle.scan.proofs.with_cell.Goals as goal

@@ -1,15 +1,10 @@
 -- `scan::with_row` meets its contract. The loop's invariant: the words of the row are walked so far, their tiles are marked, and the counts are those after
 -- the cells of these words. The measure is the number of words left. Assumes nothing.
-use mathlib.Core.Path.{◌≡◌, refl, ◌∙◌, ap}
+use mathlib.Core.Path.{◌≡◌}
 use Prim.Native.Nat.{◌*◌, ◌-◌, ◌≤◌}
-use native.Mathlib.Omega.{arith}
-use borrow.Author.Rules.{rules}
-use Rattle.scope.specs.Limits.{side_limit}
 use Rattle.scope.specs.Terrain.{above_at, terrain}
 use Rattle.scan.specs.Scanned.{counts_after}
-use Rattle.scan.proofs.Samples.{terrain-outside}
-use Rattle.scan.proofs.Rows.{Walked, walk_begins, walk-goes-on, walk_ends, pane-there, MarkedTo, row-begins, word-noted, row_ends}
-use Rattle.scan.proofs.Steps.{row-counted}
+use Rattle.scan.proofs.Rows.{Walked, MarkedTo}
 use Rattle.scan.proofs.with_row.Given as goal
 
 abbrev pub invariant-loop-w : goal.invariant-loop-w

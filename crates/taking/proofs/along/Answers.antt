@@ -2,12 +2,10 @@
 -- Assumes nothing.
 use mathlib.Core.Path.{refl, sym, ap, ◌∙◌}
 use mathlib.Core.Bool.{xor}
-use Prim.Native.Nat.{◌-◌}
 use native.Mathlib.Omega.{arith}
-use borrow.Author.Rules.{rules}
 use Rattle.scope.specs.Containment.{signed}
 use Rattle.taking.specs.Places.{place_of}
-use Rattle.taking.proofs.Walks.{Along, along-held, along-next, along-beside, along-end}
+use Rattle.taking.proofs.Walks.{along-held, along-next, along-beside, along-end}
 use Rattle.taking.proofs.along.Goals as goal
 
 pub loop-k-init : goal.loop-k-init

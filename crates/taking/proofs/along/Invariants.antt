@@ -1,13 +1,7 @@
 -- `taking::along` meets its contract. The loop's invariant is `Along`: the pairs that are not passed answer as all do. The measure is what is left of them.
 -- Assumes nothing.
-use mathlib.Core.Path.{refl, sym, ap, ◌∙◌}
-use mathlib.Core.Bool.{xor}
 use Prim.Native.Nat.{◌-◌}
-use native.Mathlib.Omega.{arith}
-use borrow.Author.Rules.{rules}
-use Rattle.scope.specs.Containment.{signed}
-use Rattle.taking.specs.Places.{place_of}
-use Rattle.taking.proofs.Walks.{Along, along-held, along-next, along-beside, along-end}
+use Rattle.taking.proofs.Walks.{Along}
 use Rattle.taking.proofs.along.Given as goal
 
 abbrev pub invariant-loop-k : goal.invariant-loop-k

@@ -2,14 +2,13 @@
 -- is what is left of them. Assumes nothing.
 use mathlib.Core.Path.{refl, sym, ap, subst, ◌∙◌}
 use mathlib.Core.Bool.{true, false}
-use Prim.Native.Nat.{◌-◌, ◌/◌, ◌+◌}
+use Prim.Native.Nat.{◌/◌, ◌+◌}
 use native.Mathlib.Omega.{arith}
-use borrow.Author.Rules.{rules}
 use Rattle.scope.specs.Containment.{outside, boundary, inside, signed}
 use Rattle.extents.specs.Ladders.{Chunked}
 use Rattle.taking.specs.Places.{place_of}
 use Rattle.taking.proofs.Walks.{placed}
-use Rattle.taking.proofs.Passing.{first-chunked, Gone, gone_held, gone-next, gone-end}
+use Rattle.taking.proofs.Passing.{first-chunked, gone_held, gone-next, gone-end}
 use Rattle.taking.proofs.along_near.Goals as goal
 
 pub loop-k-init : goal.loop-k-init

@@ -1,15 +1,7 @@
 -- `taking::along_near` meets its contract. The loop's invariant is `Gone`: the pairs that are neither passed over nor walked answer as all do. The measure
 -- is what is left of them. Assumes nothing.
-use mathlib.Core.Path.{refl, sym, ap, subst, ◌∙◌}
-use mathlib.Core.Bool.{true, false}
-use Prim.Native.Nat.{◌-◌, ◌/◌, ◌+◌}
-use native.Mathlib.Omega.{arith}
-use borrow.Author.Rules.{rules}
-use Rattle.scope.specs.Containment.{outside, boundary, inside, signed}
-use Rattle.extents.specs.Ladders.{Chunked}
-use Rattle.taking.specs.Places.{place_of}
-use Rattle.taking.proofs.Walks.{placed}
-use Rattle.taking.proofs.Passing.{first-chunked, Gone, gone_held, gone-next, gone-end}
+use Prim.Native.Nat.{◌-◌}
+use Rattle.taking.proofs.Passing.{Gone}
 use Rattle.taking.proofs.along_near.Given as goal
 
 abbrev pub invariant-loop-k : goal.invariant-loop-k

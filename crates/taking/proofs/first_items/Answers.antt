@@ -1,5 +1,4 @@
 -- `taking::first_items` meets its contract: each count is that of the definition. Assumes nothing.
-use borrow.Author.Rules.{rules}
 use Rattle.taking.specs.Stretches.{first_items}
 use Rattle.taking.proofs.first_items.Goals as goal
 

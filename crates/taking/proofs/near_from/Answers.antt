@@ -1,6 +1,5 @@
 -- `taking::near_from` meets its contract: no pair is passed over, or those before the first chunk that is not apart. Assumes nothing.
 use native.Mathlib.Omega.{arith}
-use borrow.Author.Rules.{rules}
 use Rattle.extents.specs.Extents.{ray_from}
 use Rattle.taking.proofs.Passing.{none_passed, before-near}
 use Rattle.taking.proofs.near_from.Goals as goal

@@ -16,7 +16,7 @@ use Rattle.trying.proofs.try_changes.Goals as goal
 
 pub loop-rest-init : goal.loop-rest-init
 loop-rest-init c =
-    (unseen-begin _ _ _ c.requires.1.0 c.requires.1.1, word-begun _ _ _, refl)
+    (unseen-begin _ _ _ c.requires.shows c.requires.changes_value, word-begun _ _ _, refl)
 
 pub overflow_add-j : goal.overflow_add-j
 overflow_add-j c = omega (arith, (unseen-next _ _ _ c.loop-rest.invariant.0 (λ z. omega arith)).in-word)
@@ -27,12 +27,12 @@ number_in-number-requires c = (unseen-next _ _ _ c.loop-rest.invariant.0 (λ z. 
 pub overflow_add-c : goal.overflow_add-c
 unfolding side_limit
 overflow_add-c c =
-    omega (arith, c.requires.0.0, c.requires.0.1, (unseen-next _ _ _ c.loop-rest.invariant.0 (λ z. omega arith)).in-word)
+    omega (arith, c.requires.dx_le_side_limit.0, c.requires.dx_le_side_limit.1, (unseen-next _ _ _ c.loop-rest.invariant.0 (λ z. omega arith)).in-word)
 
 pub try_cell-next-requires : goal.try_cell-next-requires
 unfolding side_limit
 try_cell-next-requires c =
-    (c.requires.0.0, omega (arith, c.requires.0.0, c.requires.0.1, (unseen-next _ _ _ c.loop-rest.invariant.0 (λ z. omega arith)).in-word))
+    (c.requires.dx_le_side_limit.0, omega (arith, c.requires.dx_le_side_limit.0, c.requires.dx_le_side_limit.1, (unseen-next _ _ _ c.loop-rest.invariant.0 (λ z. omega arith)).in-word))
 
 pub overflow_cast-rest : goal.overflow_cast-rest
 overflow_cast-rest c =
@@ -56,7 +56,7 @@ loop-rest-preserved c =
     let next = unseen-next _ _ _ so_far.0 (λ z. omega arith) in (
       next.unseen-then,
       active-swept _ _ _ (still _ _) _ next so_far.1
-          (c.try_cell-next.ensures ∙ cell-of _ _ _ _ (c.number_in-number.ensures ∙ number-shown _ _ _ c.requires.1.0 next.in-word)),
+          (c.try_cell-next.ensures ∙ cell-of _ _ _ _ (c.number_in-number.ensures ∙ number-shown _ _ _ c.requires.shows next.in-word)),
       c.try_cell-next.auto.0 ∙ so_far.2,
     )
 

@@ -39,14 +39,8 @@ overflow_cast-w c = omega arith
 pub try_changes-next-requires : goal.try_changes-next-requires
 try_changes-next-requires c =
     let upper-word = c.row_word-upper_word in
-    let lower_word = c.row_word-lower_word in (
-      (c.requires, omega arith),
-      (
-        pane-between _ _ c.loop-w.invariant.0 upper-word.ensures lower_word.ensures (omega (arith, upper-word.type-inv)) (omega (arith, lower_word.type-inv))
-            c.pane_of-pane.ensures,
-        c.changes_in-changes.ensures,
-      ),
-    )
+    let lower_word = c.row_word-lower_word in record { dx_le_side_limit = (c.requires, omega arith); shows = pane-between _ _ c.loop-w.invariant.0 upper-word.ensures lower_word.ensures (omega (arith, upper-word.type-inv)) (omega (arith, lower_word.type-inv))
+            c.pane_of-pane.ensures; changes_value = c.changes_in-changes.ensures }
 
 pub overflow_add-w : goal.overflow_add-w
 unfolding side_limit

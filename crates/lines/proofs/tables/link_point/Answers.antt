@@ -1,5 +1,4 @@
 -- `lines::tables::link_point` meets its contract: the code reads the word that the definition reads. Assumes nothing.
-use borrow.Author.Rules.{rules}
 use Rattle.machine.specs.Machine.{link_point}
 use Rattle.lines.proofs.tables.link_point.Goals as goal
 

@@ -1,6 +1,5 @@
 -- `lines::tables::move_line` meets its contract: the slot is stored and the two ends are filed as the definition says, one after the other.
 -- Assumes nothing.
-use borrow.Author.Rules.{rules}
 use Rattle.machine.specs.Machine.{moved}
 use Rattle.lines.proofs.tables.move_line.Goals as goal
 

@@ -1,5 +1,4 @@
 -- `lines::tables::put_link` meets its contract: the two stores are the definition's, one after the other. Assumes nothing.
-use borrow.Author.Rules.{rules}
 use Rattle.machine.specs.Machine.{with_link}
 use Rattle.lines.proofs.tables.put_link.Goals as goal
 

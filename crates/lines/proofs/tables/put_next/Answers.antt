@@ -1,5 +1,4 @@
 -- `lines::tables::put_next` meets its contract: the code stores the word that the definition stores. Assumes nothing.
-use borrow.Author.Rules.{rules}
 use Rattle.machine.specs.Machine.{with_next}
 use Rattle.lines.proofs.tables.put_next.Goals as goal
 

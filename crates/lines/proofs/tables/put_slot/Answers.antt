@@ -1,5 +1,4 @@
 -- `lines::tables::put_slot` meets its contract: the four stores are the definition's, one after the other. Assumes nothing.
-use borrow.Author.Rules.{rules}
 use Rattle.machine.specs.Machine.{with_slot}
 use Rattle.lines.proofs.tables.put_slot.Goals as goal
 

@@ -1,6 +1,5 @@
 -- `lines::tables::release` meets its contract: the last line stays where it is, and any other slot is filled by the last. Assumes nothing.
 use borrow.Author.Tests.{eq-eqb, ne_eqb}
-use borrow.Author.Rules.{rules}
 use Rattle.machine.specs.Machine.{released}
 use Rattle.lines.proofs.tables.release.Goals as goal
 

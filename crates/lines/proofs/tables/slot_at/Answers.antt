@@ -1,5 +1,4 @@
 -- `lines::tables::slot_at` meets its contract: the four reads are the definition's. Assumes nothing.
-use borrow.Author.Rules.{rules}
 use Rattle.machine.specs.Machine.{first_link, last_link, end_point, link_count}
 use Rattle.lines.proofs.tables.slot_at.Goals as goal
 

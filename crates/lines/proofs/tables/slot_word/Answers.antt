@@ -1,6 +1,5 @@
 -- `lines::tables::slot_word` meets its contract: the code's sum is the definition's. Assumes nothing.
 use mathlib.Core.Path.{refl}
-use borrow.Author.Rules.{rules}
 use Rattle.machine.specs.Machine.{slot_word}
 use Rattle.lines.proofs.tables.slot_word.Goals as goal
 

@@ -1,6 +1,5 @@
 -- `lines::tables::word_of` meets its contract: the code's remainder is the definition's. Assumes nothing.
 use mathlib.Core.Path.{refl}
-use borrow.Author.Rules.{rules}
 use Rattle.machine.specs.Machine.{word_of}
 use Rattle.lines.proofs.tables.word_of.Goals as goal
 
