@@ -46,7 +46,7 @@ numbered-among front (ring ∷ rings) k e = (
     ring-is = rw (← e) (get_or-append_seam front ring rings []);
   },
   subst (λ all. Each (Among all) (numbered_from (suc k) rings)) (append_snoc front ring rings)
-  (numbered-among (front ++ (ring ∷ [])) rings (suc k) (omega (arith, length-append front (ring ∷ [])))),
+      (numbered-among (front ++ (ring ∷ [])) rings (suc k) (omega (arith, length-append front (ring ∷ [])))),
 )
 
 pub by_number : (rings : List Line) → OrderOf rings (numbered_from 0 rings)
