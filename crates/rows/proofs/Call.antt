@@ -15,7 +15,7 @@ use Rattle.scope.specs.Limits.{side_limit, record_stride}
 use Rattle.scope.specs.Terrain.{Sheet}
 use Rattle.scope.specs.Room.{open_words, link_words, directory_words}
 use Rattle.scope.specs.Cells.{cell_number}
-use Rattle.scope.specs.Stitching.{Line, Drawing, nothing}
+use Rattle.scope.specs.Stitching.{Line, Drawing}
 use Rattle.scope.specs.Drawing.{segments_after, drawing_after, open_after, rings_after}
 use Rattle.scope.specs.Tables.{written, packed_points, bare_records}
 use Rattle.laws.proofs.Total.{total, total-append}
@@ -33,8 +33,6 @@ use Rattle.packing.proofs.Laws.{clearing-keeps-the-length, the-rest-stays}
 use Rattle.sweep.specs.Sweep.{sample_in, between, row_cells}
 use Rattle.sweep.proofs.Rows.{upper-kept, lower-kept}
 use Rattle.scope.specs.declared.Level.{Level}
-use Rattle.isoringbuilder.specs.Verdict.{refused}
-use Rattle.isoringbuilder.specs.declared.Built.TheVariants as built-is
 use Rattle.trying.specs.Notes.{frontier_noted}
 use Rattle.trying.specs.Trying.{Tried, row_tried}
 use Rattle.trying.specs.declared.Trial.{Trial}

@@ -7,4 +7,4 @@ use Rattle.bands.proofs.room_of.Goals as goal
 pub returns : goal.returns
 unfolding band_room_of scanned
 returns c =
-    rw (c.larger-peak.ensures, c.larger-segments.ensures, c.counts_of-above.ensures, c.Counts-of.ensures)
+    rw (c.larger-peak.ensures, c.larger-segments.ensures, c.counts_of-above.ensures, c.counts_of-below.ensures)

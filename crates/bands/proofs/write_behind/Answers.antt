@@ -6,4 +6,4 @@ use Rattle.bands.proofs.write_behind.Goals as goal
 pub returns : goal.returns
 returns c =
     let called = c.write_rings in
-    record { points_after = stored-part c.args.words c.args.points.now _ _ called.ensures.0; directory_after = stored-part c.args.records c.args.directory.now _ _ called.ensures.1 }
+    record { points_after = stored-part c.args.words c.args.points.now _ _ called.ensures.points_after; directory_after = stored-part c.args.records c.args.directory.now _ _ called.ensures.directory_after }

@@ -1,7 +1,6 @@
 -- `rows::advance` meets its contract: the table is short at once, or the answer that the trial leads to settles the call. Assumes nothing.
 use mathlib.Core.Path.{◌∙◌}
 use native.Mathlib.Omega.{arith}
-use borrow.Author.Rules.{rules}
 use Rattle.scope.specs.Limits.{record_stride}
 use Rattle.rows.specs.Called.{refused_by}
 use Rattle.rows.proofs.Calls.{short-at-once, refused-after, taken-after}

@@ -2,7 +2,6 @@
 use Prim.Native.Nat.{◌*◌}
 use native.Mathlib.Omega.{arith}
 use borrow.Author.Tests.{lt-ltb, le-ltb}
-use borrow.Author.Rules.{rules}
 use Rattle.scope.specs.Room.{open_words, link_words}
 use Rattle.rows.specs.Called.{answer_by}
 use Rattle.rows.proofs.answer_of.Goals as goal

@@ -2,7 +2,6 @@
 use mathlib.Core.Path.{sym, ◌∙◌}
 use native.Mathlib.Omega.{arith}
 use borrow.Author.Tests.{not-true, not-false}
-use borrow.Author.Rules.{rules}
 use Rattle.scope.specs.Limits.{side_limit}
 use Rattle.rows.proofs.Sides.{sides-within, begun, not-begun}
 use Rattle.rows.proofs.begin.Goals as goal

@@ -1,6 +1,5 @@
 -- `rows::draw` meets its contract: the frontier is filed, the row is drawn, and the frontier is noted. `row-drawn` puts these together. Assumes nothing.
 use native.Mathlib.Omega.{arith}
-use borrow.Author.Rules.{rules}
 use Rattle.scope.specs.Limits.{side_limit}
 use Rattle.rows.proofs.Calls.{row-drawn}
 use Rattle.rows.proofs.draw.Goals as goal

@@ -1,7 +1,6 @@
 -- `rows::end` meets its contract: it is refused by its turn or by the row of cells, or that row is drawn and both work tables are cleared. Assumes nothing.
 use mathlib.Core.Path.{sym, ◌∙◌, ap}
 use native.Mathlib.Omega.{arith}
-use borrow.Author.Rules.{rules}
 use Rattle.packing.specs.Cleared.{cleared}
 use Rattle.rows.specs.Called.{Outcome, refused_by}
 use Rattle.rows.proofs.Sides.{turn-tested, end-within}

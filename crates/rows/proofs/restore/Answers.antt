@@ -1,7 +1,6 @@
 -- `rows::restore` meets its contract, by the test whether a row was drawn before. Assumes nothing.
 use native.Mathlib.Omega.{arith}
 use borrow.Author.Tests.{eq-eqb, ne_eqb}
-use borrow.Author.Rules.{rules}
 use Rattle.rows.specs.Called.{lines_restored}
 use Rattle.rows.proofs.restore.Goals as goal
 

@@ -1,7 +1,6 @@
 -- `rows::row` meets its contract: it is refused by its length, then by its turn, and else its samples are the lower ones of a row of cells. Assumes nothing.
 use mathlib.Core.Path.{sym, ◌∙◌}
 use native.Mathlib.Omega.{arith}
-use borrow.Author.Rules.{rules}
 use Rattle.scope.specs.Limits.{side_limit}
 use Rattle.rows.specs.Called.{refused_by}
 use Rattle.rows.proofs.Sides.{row-tested, row_within}

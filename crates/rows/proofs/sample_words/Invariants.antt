@@ -1,12 +1,8 @@
 -- `rows::sample_words` meets its contract. The loop's invariant is `Sampled`: the words so far are those of the row. The measure is the number of words left.
 -- Assumes nothing.
 use Prim.Native.Nat.{◌-◌, ◌≤◌}
-use native.Mathlib.Omega.{arith}
-use Rattle.scope.specs.Limits.{side_limit}
 use Rattle.scope.specs.Terrain.{above_at, terrain}
-use Rattle.scan.proofs.Samples.{terrain-outside}
-use Rattle.rows.specs.Called.{row_words}
-use Rattle.rows.proofs.Samples.{Sampled, samples-begin, samples-go-on, samples-end}
+use Rattle.rows.proofs.Samples.{Sampled}
 use Rattle.rows.proofs.sample_words.Given as goal
 
 abbrev pub invariant-loop-w : goal.invariant-loop-w
