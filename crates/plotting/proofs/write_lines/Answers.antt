@@ -63,4 +63,7 @@ pub shape_of-directory : goal.shape_of-directory
 shape_of-directory c = stored-room c.loop-left.invariant.2.2.so_far
 
 pub returns : goal.returns
-returns c = (points-end c.loop-left.invariant.1 c.loop-left-test.false, records-end c.loop-left.invariant.2.2 c.loop-left-test.false)
+returns c = record {
+  points_after = points-end c.loop-left.invariant.1 c.loop-left-test.false;
+  directory_after = records-end c.loop-left.invariant.2.2 c.loop-left-test.false;
+}
