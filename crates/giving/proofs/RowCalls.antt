@@ -24,7 +24,6 @@ use Rattle.machine.proofs.Chains.{uses}
 use Rattle.machine.proofs.Held.{HeldLine, Still, line-still, rings-still, chain-uses}
 use Rattle.machine.proofs.Ready.{used}
 use Rattle.machine.proofs.Leaving.{all}
-use Rattle.machine.proofs.Steps.{Kept}
 use Rattle.giving.specs.Giving.{Given, row_given}
 use Rattle.giving.proofs.Most.{most_of}
 use Rattle.giving.proofs.Stock.{stock-kept}

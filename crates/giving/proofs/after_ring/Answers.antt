@@ -1,5 +1,4 @@
 -- `giving::after_ring` meets its contract: each count is the definition's. Assumes nothing.
-use borrow.Author.Rules.{rules}
 use Rattle.giving.proofs.after_ring.Goals as goal
 
 pub returns : goal.returns

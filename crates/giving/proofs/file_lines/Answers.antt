@@ -1,10 +1,7 @@
 -- `giving::file_lines` meets its contract. The loop's invariant: the table is the definition's, filed as far as slot i. The measure is the number of slots left.
 -- Assumes nothing.
 use mathlib.Core.Path.{◌≡◌, refl, ap, ◌∙◌}
-use Prim.Native.Nat.{◌-◌, ◌≤◌}
 use native.Mathlib.Omega.{arith}
-use lib.ListN.{length}
-use borrow.Author.Rules.{rules}
 use Rattle.giving.specs.Giving.{slots_filed}
 use Rattle.giving.proofs.Walks.{one-slot-more}
 use Rattle.giving.proofs.file_lines.Goals as goal
@@ -19,7 +16,6 @@ loop-i-preserved c =
       omega arith,
       one-slot-more _ _ _ _ so_far.1 (c.column_word-start.ensures ∙ rw (c.link_point.ensures, c.slot_at-line.ensures)) c.put.ensures
           (c.column_word.ensures ∙ rw c.slot_at-line.ensures) c.put-in-loop-i.ensures,
-      search rules,
     )
 
 pub returns : goal.returns

@@ -1,12 +1,8 @@
 -- `giving::file_lines` meets its contract. The loop's invariant: the table is the definition's, filed as far as slot i. The measure is the number of slots left.
 -- Assumes nothing.
-use mathlib.Core.Path.{◌≡◌, refl, ap, ◌∙◌}
+use mathlib.Core.Path.{◌≡◌}
 use Prim.Native.Nat.{◌-◌, ◌≤◌}
-use native.Mathlib.Omega.{arith}
-use lib.ListN.{length}
-use borrow.Author.Rules.{rules}
 use Rattle.giving.specs.Giving.{slots_filed}
-use Rattle.giving.proofs.Walks.{one-slot-more}
 use Rattle.giving.proofs.file_lines.Given as goal
 
 abbrev pub invariant-loop-i : goal.invariant-loop-i

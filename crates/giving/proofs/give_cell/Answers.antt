@@ -1,7 +1,7 @@
 -- `giving::give_cell` meets its contract: each arm draws the strokes that the case table has for its number, and the numbers that are left have none.
 -- Assumes nothing.
 use mathlib.Core.Path.{refl}
-use borrow.Author.Rules.{rules}
+use native.Mathlib.Omega.{arith}
 use Rattle.scope.specs.Cells.{case_table, drawn}
 use Rattle.cells.specs.Sides.{stroke_at}
 use Rattle.giving.proofs.Cells.{one-given, two-given, rest-given}
@@ -80,4 +80,4 @@ returns-in-14 c =
     one-given _ _ _ _ _ c.entry_of-met.ensures c.in-14.is refl c.stroke_at-in-14.ensures c.give_stroke-in-14.ensures
 
 pub returns-in_default : goal.returns-in_default
-returns-in_default c = rest-given _ _ _ _ _ c.in-1.rest
+returns-in_default c = rest-given _ _ _ _ _ (omega arith)

@@ -1,16 +1,11 @@
 -- `giving::give_changes` meets its contract. The loop's invariant: the tables and the counts are those after the cells that are seen, and the bits of the
 -- others are left. The measure is how many are left. Assumes nothing.
-use mathlib.Core.Path.{◌≡◌, refl, ◌∙◌, subst}
-use Prim.Native.Nat.{◌-◌}
+use mathlib.Core.Path.{◌≡◌, ◌∙◌, subst}
 use native.Mathlib.Omega.{arith}
-use lib.ListN.{length}
 use Rattle.scope.specs.Limits.{side_limit}
 use Rattle.words.proofs.Laws.{number-shown}
 use Rattle.scan.proofs.Rows.{Unseen, unseen-begin, unseen-next}
-use Rattle.sweep.specs.Sweep.{between, swept}
 use Rattle.sweep.proofs.Steps.{word-begun, active-swept, word-swept}
-use Rattle.giving.specs.Giving.{cell_given}
-use Rattle.giving.specs.Values.{given_of}
 use Rattle.giving.proofs.Cells.{still, cell-of, word-stops}
 use Rattle.giving.proofs.give_changes.Goals as goal
 
@@ -35,7 +30,9 @@ pub number_in-number-requires : goal.number_in-number-requires
 number_in-number-requires c = (unseen-next _ _ _ c.loop-rest.invariant.0 (λ z. omega arith)).in-word
 
 pub overflow_add-c-in-loop-rest : goal.overflow_add-c-in-loop-rest
-overflow_add-c-in-loop-rest c = add-if1 c
+unfolding side_limit
+overflow_add-c-in-loop-rest c =
+    omega (arith, c.requires.within.columns, c.requires.within.column, (unseen-next _ _ _ c.loop-rest.invariant.0 (λ z. omega arith)).in-word)
 
 pub give_cell-next-requires : goal.give_cell-next-requires
 give_cell-next-requires c =
@@ -60,7 +57,6 @@ loop-rest-smaller c =
 pub loop-rest-preserved : goal.loop-rest-preserved
 loop-rest-preserved c =
     let so_far = c.loop-rest.invariant in
-    let kept = c.give_cell-next.auto in
     let next = unseen-next _ _ _ so_far.0 (λ z. omega arith) in (
       next.unseen-then,
       active-swept _ _ _ (still _ _ _) _ next so_far.1

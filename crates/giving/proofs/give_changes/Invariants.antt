@@ -1,17 +1,11 @@
 -- `giving::give_changes` meets its contract. The loop's invariant: the tables and the counts are those after the cells that are seen, and the bits of the
 -- others are left. The measure is how many are left. Assumes nothing.
-use mathlib.Core.Path.{◌≡◌, refl, ◌∙◌, subst}
+use mathlib.Core.Path.{◌≡◌}
 use Prim.Native.Nat.{◌-◌}
-use native.Mathlib.Omega.{arith}
-use lib.ListN.{length}
-use Rattle.scope.specs.Limits.{side_limit}
-use Rattle.words.proofs.Laws.{number-shown}
-use Rattle.scan.proofs.Rows.{Unseen, unseen-begin, unseen-next}
+use Rattle.scan.proofs.Rows.{Unseen}
 use Rattle.sweep.specs.Sweep.{between, swept}
-use Rattle.sweep.proofs.Steps.{word-begun, active-swept, word-swept}
 use Rattle.giving.specs.Giving.{cell_given}
 use Rattle.giving.specs.Values.{given_of}
-use Rattle.giving.proofs.Cells.{still, cell-of, word-stops}
 use Rattle.giving.proofs.give_changes.Given as goal
 
 abbrev pub invariant-loop-rest : goal.invariant-loop-rest

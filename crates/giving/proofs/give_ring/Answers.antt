@@ -1,6 +1,5 @@
 -- `giving::give_ring` meets its contract: what was read and what was stored, put in for each other from the last store back to the entry, is the
 -- definition. Assumes nothing.
-use borrow.Author.Rules.{rules}
 use Rattle.giving.specs.Giving.{ring_given}
 use Rattle.giving.proofs.give_ring.Goals as goal
 

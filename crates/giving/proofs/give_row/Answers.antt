@@ -1,16 +1,10 @@
 -- `giving::give_row` meets its contract. The loop's invariant: the tables and the counts are those after the cells of the words so far, and the samples on
 -- the left of the next cell are known. The measure is the number of words left. Assumes nothing.
-use mathlib.Core.Path.{◌≡◌, refl, ◌∙◌}
-use Prim.Native.Nat.{◌+◌, ◌*◌, ◌-◌, ◌≤◌}
 use native.Mathlib.Omega.{arith}
-use lib.ListN.{length}
-use borrow.Author.Rules.{rules}
 use Rattle.scope.specs.Limits.{side_limit}
-use Rattle.sweep.specs.Sweep.{between, swept}
-use Rattle.sweep.proofs.Rows.{Beside, beside-begins, beside-next, pane-between}
+use Rattle.sweep.proofs.Rows.{beside-begins, beside-next, pane-between}
 use Rattle.sweep.proofs.Steps.{row-begun, word_more, row-swept}
-use Rattle.giving.specs.Giving.{cell_given, row_given}
-use Rattle.giving.specs.Values.{given_of}
+use Rattle.giving.specs.Giving.{row_given}
 use Rattle.giving.proofs.give_row.Goals as goal
 
 pub loop-w-init : goal.loop-w-init
@@ -25,6 +19,7 @@ unfolding side_limit
 row_word-upper_word-requires c = omega (arith, c.requires.columns)
 
 pub row_word-lower_word-requires : goal.row_word-lower_word-requires
+unfolding side_limit
 row_word-lower_word-requires c = omega (arith, c.requires.columns)
 
 pub overflow_mul-w-in-loop-w : goal.overflow_mul-w-in-loop-w
@@ -38,8 +33,12 @@ overflow_cast-w c = omega arith
 pub give_changes-next-requires : goal.give_changes-next-requires
 give_changes-next-requires c =
     let upper-word = c.row_word-upper_word in
-    let lower_word = c.row_word-lower_word in record { within = record { columns = c.requires.columns; column = omega arith; row = c.requires.row }; shows = pane-between _ _ c.loop-w.invariant.0 upper-word.ensures lower_word.ensures (omega arith) (omega arith)
-            c.pane_of-pane.ensures; changes_value = c.changes_in-changes.ensures }
+    let lower_word = c.row_word-lower_word in record {
+      within = record { columns = c.requires.columns; column = omega arith; row = c.requires.row };
+      shows = pane-between _ _ c.loop-w.invariant.0 upper-word.ensures lower_word.ensures (omega arith) (omega arith)
+          c.pane_of-pane.ensures;
+      changes_value = c.changes_in-changes.ensures;
+    }
 
 pub overflow_add-w : goal.overflow_add-w
 unfolding side_limit
@@ -48,8 +47,7 @@ overflow_add-w c =
 
 pub loop-w-preserved : goal.loop-w-preserved
 loop-w-preserved c =
-    let so_far = c.loop-w.invariant in
-    (
+    let so_far = c.loop-w.invariant in (
       beside-next _ _ _ c.row_word-upper_word.ensures c.row_word-lower_word.ensures c.bit_at-upper_left.ensures c.bit_at-lower_left.ensures,
       word_more _ _ _ so_far.1 c.give_changes-next.ensures,
       omega (arith, c.loop-w-test.true),

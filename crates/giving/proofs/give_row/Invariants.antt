@@ -1,15 +1,10 @@
 -- `giving::give_row` meets its contract. The loop's invariant: the tables and the counts are those after the cells of the words so far, and the samples on
 -- the left of the next cell are known. The measure is the number of words left. Assumes nothing.
-use mathlib.Core.Path.{◌≡◌, refl, ◌∙◌}
+use mathlib.Core.Path.{◌≡◌}
 use Prim.Native.Nat.{◌+◌, ◌*◌, ◌-◌, ◌≤◌}
-use native.Mathlib.Omega.{arith}
-use lib.ListN.{length}
-use borrow.Author.Rules.{rules}
-use Rattle.scope.specs.Limits.{side_limit}
 use Rattle.sweep.specs.Sweep.{between, swept}
-use Rattle.sweep.proofs.Rows.{Beside, beside-begins, beside-next, pane-between}
-use Rattle.sweep.proofs.Steps.{row-begun, word_more, row-swept}
-use Rattle.giving.specs.Giving.{cell_given, row_given}
+use Rattle.sweep.proofs.Rows.{Beside}
+use Rattle.giving.specs.Giving.{cell_given}
 use Rattle.giving.specs.Values.{given_of}
 use Rattle.giving.proofs.give_row.Given as goal
 

@@ -1,5 +1,4 @@
 -- `giving::give_stroke` meets its contract: each way through the tests is the rule for two sides that are met or not. Assumes nothing.
-use borrow.Author.Rules.{rules}
 use Rattle.lines.specs.Values.{edges_of}
 use Rattle.drawing.specs.Values.{side_of}
 use Rattle.giving.proofs.Strokes.{by-closing, by-joining, by-appending, by-prepending, by-starting}

@@ -2,7 +2,6 @@
 use mathlib.Core.Path.{◌≡◌}
 use Prim.Native.Nat.{suc, ◌+◌, ◌*◌}
 use native.Mathlib.Omega.{arith}
-use borrow.Author.Rules.{rules}
 use Rattle.scope.specs.Area.{low_word, high_word, area_words}
 use Rattle.scope.specs.Limits.{record_stride}
 use Rattle.scope.specs.Room.{directory_words}

@@ -1,5 +1,4 @@
 -- `giving::stock_after` meets its contract: each side of the test is the definition's case. Assumes nothing.
-use borrow.Author.Rules.{rules}
 use borrow.Author.Tests.{lt-ltb, le-ltb}
 use Rattle.giving.specs.Giving.{stock_after}
 use Rattle.giving.proofs.stock_after.Goals as goal

@@ -2,7 +2,7 @@
 -- what is asked; so does stopping at the points' end. The measure is the number of links not yet walked. Assumes nothing.
 use native.Mathlib.Omega.{arith}
 use borrow.Author.Rules.{rules}
-use Rattle.giving.proofs.Walks.{RingLeft, ring-begins, ring-room, ring-stops, ring-next, ring-ends}
+use Rattle.giving.proofs.Walks.{ring-begins, ring-room, ring-stops, ring-next, ring-ends}
 use Rattle.giving.proofs.write_ring.Goals as goal
 
 pub loop-left-init : goal.loop-left-init

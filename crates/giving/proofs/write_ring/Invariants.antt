@@ -1,8 +1,6 @@
 -- `giving::write_ring` meets its contract. The loop's invariant is `RingLeft`: storing the points of the links not yet walked, and then the ring's end, leaves
 -- what is asked; so does stopping at the points' end. The measure is the number of links not yet walked. Assumes nothing.
-use native.Mathlib.Omega.{arith}
-use borrow.Author.Rules.{rules}
-use Rattle.giving.proofs.Walks.{RingLeft, ring-begins, ring-room, ring-stops, ring-next, ring-ends}
+use Rattle.giving.proofs.Walks.{RingLeft}
 use Rattle.giving.proofs.write_ring.Given as goal
 
 abbrev pub invariant-loop-left : goal.invariant-loop-left

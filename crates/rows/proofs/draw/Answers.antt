@@ -12,5 +12,5 @@ overflow_add-drawn c =
 
 pub returns : goal.returns
 returns c =
-    row-drawn c.args.t1 c.args.lower.now c.args.lines.now c.args.links.now c.args.points.now c.args.directory.now _ _ _ _ _ _ _ _ _ _
+    row-drawn c.args.state c.args.lower.now c.args.lines.now c.args.links.now c.args.points.now c.args.directory.now _ _ _ _ _ _ _ _ _ _
     c.file_lines.ensures c.give_row-play.ensures c.note_lines.ensures c.larger-most.ensures

@@ -39,7 +39,7 @@ pub loop-w-preserved : goal.loop-w-preserved
 unfolding side_limit
 loop-w-preserved c =
     let so_far = c.loop-w.invariant in
-    (samples-go-on _ (terrain-outside _ _ _ _) so_far.0 c.lower_word.ensures (element-write-row c), omega (arith, element-write-row c))
+    (samples-go-on _ (terrain-outside _ _ _ _) so_far.0 c.lower_word.ensures (omega arith), omega arith)
 
 pub returns : goal.returns
 unfolding row_words

@@ -17,7 +17,7 @@ loop-w-init c =
 pub loop-w-preserved : goal.loop-w-preserved
 loop-w-preserved c =
     let so_far = c.loop-w.invariant in
-    (so_far.0 ∙ sample-stored c.args.above.now _ _ _ _ _ (omega arith) c.low_half_lem.ensures c.high_half_lem.ensures, so_far.1)
+    (so_far.0 ∙ sample-stored c.args.above.now _ _ _ _ _ (omega arith) c.low_half.ensures c.high_half.ensures, so_far.1)
 
 pub returns : goal.returns
 returns c = sym (c.loop-w.invariant.0 ∙ all-stored _ _ _ _ (omega arith))

@@ -5,4 +5,4 @@ use Rattle.rowstate.proofs.store_state.Goals as goal
 
 pub returns : goal.returns
 returns c =
-    state-stored c.args.t1 c.args.words.now _ _ _ _ c.bits_of-bits.ensures c.low_half_lem.ensures c.high_half_lem.ensures c.rule_number.ensures c.store_samples.ensures
+    state-stored c.args.state c.args.words.now _ _ _ _ c.bits_of-bits.ensures c.low_half.ensures c.high_half.ensures c.rule_number.ensures c.store_samples.ensures
