@@ -1,13 +1,12 @@
 -- Within the side limit every number of a build fits its word. Assumes nothing.
-use mathlib.Core.Path.{◌≡◌}
 use mathlib.Core.List.{List}
-use Prim.Native.Nat.{ℕ, suc, ◌+◌, ◌*◌, ◌/◌, ◌^◌, ◌≤◌, ◌<◌}
+use Prim.Native.Nat.{ℕ, suc, ◌+◌, ◌*◌, ◌^◌, ◌≤◌, ◌<◌}
 use native.Mathlib.Omega.{arith}
 use lib.Ieee.{Float}
 use lib.ListN.{length}
 use Rattle.scope.specs.declared.Level.{Level}
 use Rattle.scope.specs.Limits.{side_limit}
-use Rattle.scope.specs.Terrain.{Sheet, sheet, above_at, terrain}
+use Rattle.scope.specs.Terrain.{Sheet, above_at, terrain}
 use Rattle.scope.specs.Drawing.{segments_of, segment_count, rings_of, ring_count, peak}
 use Rattle.laws.proofs.Edges.{Outside}
 use Rattle.laws.proofs.Laws.{the-peak-is-low, rings-are-no-more}

@@ -1,36 +1,28 @@
 -- The stitching pass: each way out of it is what the verdict says, and a pass that was done leaves document 01's rings in the links.
 -- Assumes nothing.
-use mathlib.Core.Path.{◌≡◌, refl, sym, ◌∙◌, ap, ap₂, subst}
-use mathlib.Core.Bool.{Bool, true, false, cond}
+use mathlib.Core.Path.{◌≡◌, sym, ◌∙◌, ap, ap₂}
 use mathlib.Core.List.{List}
-use Prim.Native.Nat.{ℕ, suc, ◌+◌, ◌*◌, ◌^◌, ◌≤◌, ◌<◌}
-use native.Mathlib.Omega.{arith}
-use lib.Dec.{ltb}
+use Prim.Native.Nat.{ℕ, suc, ◌≤◌, ◌<◌}
 use lib.Ieee.{Float}
-use lib.ListN.{length, drop}
-use borrow.Author.Tests.{lt-ltb, le-ltb, ltb-false}
+use lib.ListN.{length}
+use borrow.Author.Tests.{lt-ltb, le-ltb}
 use Rattle.error.specs.declared.Refusal.{Refusal}
 use Rattle.error.specs.declared.Refusal.TheVariants.{OpenShort, LinksShort}
 use Rattle.scope.specs.declared.Level.{Level}
 use Rattle.scope.specs.Terrain.{Sheet, above_at, terrain}
-use Rattle.scope.specs.Drawing.{segment_count, ring_count, rings_of, peak}
+use Rattle.scope.specs.Drawing.{segment_count, peak}
 use Rattle.scope.specs.Room.{open_words, link_words}
-use Rattle.scope.specs.Tables.{packed_points, bare_records}
 use Rattle.machine.specs.Machine.{Tables, run_after, run_over}
-use Rattle.machine.specs.Walk.{walk_points, walk_records}
-use Rattle.machine.proofs.Built.{rings-found, points-found, records-found, lines-kept, links-kept}
+use Rattle.machine.proofs.Built.{rings-found}
 use Rattle.lines.specs.Values.{tables_of}
 use Rattle.lines.specs.declared.Progress.{Progress}
 use Rattle.grid.specs.Grid.{grid_fit, Sized}
-use Rattle.grid.specs.declared.GridFit.{GridFit}
 use Rattle.grid.specs.declared.GridFit.TheVariants as fit_is
 use Rattle.grid.proofs.Laws.{a-grid-that-fits-is-sized}
 use Rattle.isoringbuilder.specs.Verdict.{Verdict, refused, passes, after_grid, work_verdict}
 use Rattle.isoringbuilder.specs.Pass.{stitched_tables, passed, pass_table, Passed}
-use Rattle.isoringbuilder.specs.declared.Pass.{Pass}
 use Rattle.isoringbuilder.specs.declared.Pass.TheVariants as pass-is
-use Rattle.isoringbuilder.specs.declared.Drawing.{Drawing}
-use Rattle.isoringbuilder.proofs.Limits.{outside, segments-fit, points-fit, peak-fits, columns-fit, rows_fit}
+use Rattle.isoringbuilder.proofs.Limits.{outside, segments-fit, peak-fits}
 
 module _ (values : List Float) (level : Level) (dx dy : ℕ) (lines links : List ℕ) where
   abbrev A : Sheet

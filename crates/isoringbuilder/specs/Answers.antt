@@ -1,6 +1,6 @@
 -- The answers and the tables at exit. Refusals 1, 2, 5 and 6 change nothing; 7 and 8 spare the outputs and, like success, zero the needed words of both
 -- work tables. Assumes nothing.
-use Rattle.std.specs.Prelude.{◌≡◌, List, ℕ, ◌+◌, Float, length}
+use Rattle.std.specs.Prelude.{◌≡◌, List, ℕ, Float, length}
 use Rattle.scope.specs.declared.Level.{Level}
 use Rattle.scope.specs.Terrain.{Sheet, above_at, terrain}
 use Rattle.scope.specs.Drawing.{segment_count, ring_count, rings_of, peak}

@@ -1,5 +1,5 @@
 -- The lowest refusal that applies to a build, alone, in the order of document 01's numbers. Assumes nothing.
-use Rattle.std.specs.Prelude.{Bool, cond, ℕ, ltb}
+use Rattle.std.specs.Prelude.{cond, ℕ, ltb}
 use Rattle.error.specs.declared.Refusal.{Refusal}
 use Rattle.error.specs.declared.Refusal.TheVariants.{OpenShort, LinksShort, PointsShort, DirectoryShort}
 use Rattle.scope.specs.Terrain.{Sheet}

@@ -1,6 +1,6 @@
 -- Orders of packed rings: as many as there are rings, each with its number. The rings by number are one, and so are they sorted as a band is.
 -- Assumes nothing.
-use mathlib.Core.Path.{◌≡◌, refl, ◌∙◌, ap}
+use mathlib.Core.Path.{◌≡◌, refl, ◌∙◌, ap, subst}
 use mathlib.Core.List.{List, [], ◌∷◌, ◌++◌}
 use Prim.Native.Nat.{ℕ, zero, suc, ◌<◌}
 use native.Mathlib.Nat.{le_of_suc-le-suc, not-suc-le-zero}
@@ -45,7 +45,8 @@ numbered-among front (ring ∷ rings) k e = (
     number-within = omega (arith, length-append front (ring ∷ rings));
     ring-is = rw (← e) (get_or-append_seam front ring rings []);
   },
-  rw (← append_snoc front ring rings) (numbered-among (front ++ (ring ∷ [])) rings (suc k) (omega (arith, length-append front (ring ∷ [])))),
+  subst (λ all. Each (Among all) (numbered_from (suc k) rings)) (append_snoc front ring rings)
+      (numbered-among (front ++ (ring ∷ [])) rings (suc k) (omega (arith, length-append front (ring ∷ [])))),
 )
 
 pub by_number : (rings : List Line) → OrderOf rings (numbered_from 0 rings)

@@ -1,7 +1,7 @@
 -- The cells between two rows of words: a pane of two words and the samples on their left shows them, and where the rows are kept rows of a sheet, they are the
 -- sheet's cells. A word is its own bits, packed. Assumes nothing.
 use mathlib.Core.Path.{◌≡◌, refl, sym, ◌∙◌, ap}
-use mathlib.Core.Bool.{Bool, true, false}
+use mathlib.Core.Bool.{Bool, false}
 use mathlib.Core.List.{List}
 use Prim.Native.Nat.{ℕ, zero, suc, ◌+◌, ◌*◌, ◌/◌, ◌%◌, ◌^◌, ◌<◌}
 use native.Mathlib.Nat.{pow-suc, div-one}

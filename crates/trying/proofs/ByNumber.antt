@@ -3,13 +3,13 @@
 use mathlib.Core.Path.{◌≡◌, refl, sym, ◌∙◌, ap}
 use mathlib.Core.Bool.{false}
 use mathlib.Core.List.{List, [], ◌∷◌}
-use Prim.Native.Nat.{ℕ, zero, suc, ◌+◌, ◌≤◌, ◌<◌}
+use Prim.Native.Nat.{ℕ, ◌+◌, ◌≤◌, ◌<◌}
 use native.Mathlib.Decide.{dec_lt}
 use native.Mathlib.Omega.{arith}
 use lib.Dec.{eqb, eqb→eq}
 use lib.ListN.{length, get_or}
 use Rattle.scope.specs.Terrain.{Sheet}
-use Rattle.scope.specs.Cells.{Side, Left, Right, Top, Bottom, Stroke, ◌⟶◌, case_table, drawn, cell_number}
+use Rattle.scope.specs.Cells.{Left, Right, Top, Bottom, Stroke, ◌⟶◌, case_table, drawn, cell_number}
 use Rattle.cells.specs.declared.Stroke as cells
 use Rattle.cells.specs.Sides.{numbered, stroke_at}
 use Rattle.cells.proofs.Laws.{past-the-table-nothing-is-drawn}

@@ -1,7 +1,7 @@
 -- The frontier noted from the slots: each line is noted at the words of its tips, the other words are 0, and words past the frontier stay. Assumes nothing.
 use mathlib.Core.Path.{◌≡◌, refl, sym, ◌∙◌, ap, ap₂}
 use mathlib.Core.List.{List, [], ◌∷◌, ◌++◌, append_assoc}
-use Prim.Native.Nat.{ℕ, zero, suc, ◌+◌, ◌-◌, ◌/◌, ◌^◌, ◌≤◌, ◌<◌, min}
+use Prim.Native.Nat.{ℕ, zero, suc, ◌+◌, ◌-◌, ◌^◌, ◌≤◌, ◌<◌, min}
 use native.Mathlib.Omega.{arith}
 use lib.ListN.{length, get_or, set, drop, replicate, length-append}
 use lib.Seq.{get_or-drop}
@@ -9,7 +9,7 @@ use Rattle.scope.specs.Stitching.{Line}
 use Rattle.laws.proofs.Strokes.{Role, begin, finish, other}
 use Rattle.laws.proofs.Sizes.{size}
 use Rattle.laws.proofs.LineWords.{word_by, Apt, Spread}
-use Rattle.laws.proofs.Stored.{stored, stored-length, stored_past, stored-drop, stored-front, stored_there}
+use Rattle.laws.proofs.Stored.{stored, stored_past, stored-front, stored_there}
 use Rattle.machine.specs.Machine.{column_word, first_link, end_point, link_count, link_point}
 use Rattle.machine.proofs.Slotted.{Slotted, slotted-same}
 use Rattle.packing.specs.Cleared.{cleared}

@@ -3,7 +3,7 @@
 use mathlib.Core.Path.{◌≡◌, refl, sym, ◌∙◌, ap₂, subst}
 use mathlib.Core.Bool.{Bool, true}
 use mathlib.Core.List.{List, [], ◌∷◌, ◌++◌}
-use Prim.Native.Nat.{ℕ, ◌+◌, ◌-◌, ◌^◌, ◌≤◌, ◌<◌}
+use Prim.Native.Nat.{ℕ, ◌+◌, ◌^◌, ◌≤◌, ◌<◌}
 use native.Mathlib.Omega.{arith}
 use lib.ListN.{length}
 use Rattle.scope.specs.Terrain.{Sheet}
@@ -14,7 +14,6 @@ use Rattle.laws.proofs.Edges.{Outside}
 use Rattle.laws.proofs.Strokes.{Role, begin, finish}
 use Rattle.laws.proofs.Marks.{on_side, drawable}
 use Rattle.laws.proofs.Cellwise.{Sound, Ready, fresh}
-use Rattle.laws.proofs.Grid.{ready}
 use Rattle.laws.proofs.Tips.{edge_word}
 use Rattle.laws.proofs.LineWords.{Spread}
 use Rattle.machine.specs.Machine.{side_word}

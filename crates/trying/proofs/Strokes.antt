@@ -3,7 +3,7 @@
 use mathlib.Core.Path.{◌≡◌, sym, ◌∙◌, ap, subst}
 use mathlib.Core.Bool.{Bool, true, cond}
 use mathlib.Core.List.{List, [], ◌∷◌, ◌++◌}
-use Prim.Native.Nat.{ℕ, ◌+◌, ◌-◌, ◌^◌, ◌≤◌, ◌<◌}
+use Prim.Native.Nat.{ℕ, ◌+◌, ◌^◌, ◌≤◌, ◌<◌}
 use native.Mathlib.Decide.{ℕ_discrete}
 use native.Mathlib.Omega.{arith}
 use lib.ListN.{length, get_or, set}
@@ -18,7 +18,7 @@ use Rattle.laws.proofs.Tips.{edge_word}
 use Rattle.laws.proofs.Sizes.{size-at-most}
 use Rattle.laws.proofs.Drawn.{ending, starting, ending-inside, ending_there, starting-inside, starting-there, appends, prepends, begins, closes, joins}
 use Rattle.laws.proofs.LineWords.{word_by, word_at, Spread}
-use Rattle.trying.specs.Notes.{place_in, size_between, noted}
+use Rattle.trying.specs.Notes.{place_in, size_between}
 use Rattle.trying.specs.Trying.{Tried, open_tried, end_tried, start_tried, close_tried, join_tried, meet_tried, ringed}
 use Rattle.trying.proofs.Notes.{length-noted, Readable, start_of, end-noted, start-noted, open-noted, join-noted, ring-read}
 use Rattle.trying.proofs.Listed.{Noted, noted-set, noted-start, noted-without, noted-join}

@@ -1,8 +1,8 @@
 -- The trial of a row over the frontier's notes: each stroke moves a tip, joins two lines, closes one or opens one, and the counts follow. Every step is
 -- defined on every table. Assumes nothing.
-use Rattle.std.specs.Prelude.{ℕ, suc, ◌+◌, ◌-◌, ◌*◌, ◌/◌, ◌%◌, ◌^◌, max, Bool, true, false, cond, List, [], ◌∷◌, eqb, get_or}
+use Rattle.std.specs.Prelude.{ℕ, ◌+◌, ◌-◌, max, cond, List, [], ◌∷◌, eqb, get_or}
 use Rattle.scope.specs.Terrain.{Sheet}
-use Rattle.scope.specs.Cells.{Side, Left, Right, Top, Bottom, Stroke, ◌⟶◌, drawn, cell_number}
+use Rattle.scope.specs.Cells.{Left, Right, Top, Bottom, Stroke, ◌⟶◌, drawn, cell_number}
 use Rattle.machine.specs.Machine.{word_of, side_word}
 use Rattle.drawing.specs.Values.{is_met}
 use Rattle.sweep.specs.Sweep.{between, swept, row_cells}

@@ -1,15 +1,8 @@
 -- `deciding::decide` meets its contract. The loop's invariant is `Left`: the vertices that are not passed come to what all do. A vertex in the row of the outer
 -- ring's first point answers 0, and for any other the pairs of neighbours answer. The measure is how many vertices are left. Assumes nothing.
-use mathlib.Core.Path.{◌≡◌, sym, ◌∙◌}
-use Prim.Native.Nat.{◌+◌, ◌-◌}
-use native.Mathlib.Omega.{arith}
-use borrow.Author.Rules.{rules}
-use Rattle.scope.specs.Limits.{point_limit}
-use Rattle.scope.specs.Containment.{Answer, outside, boundary, inside, point_against}
-use Rattle.extents.specs.Points.{point_in, ring_in}
-use Rattle.taking.specs.Places.{place_of}
-use Rattle.taking.proofs.Walks.{placed}
-use Rattle.deciding.proofs.Laws.{Left, left-begin, left-next, left-inside, left-outside, left-none, in-first-row, by-neighbours}
+use Prim.Native.Nat.{◌-◌}
+use Rattle.extents.specs.Points.{ring_in}
+use Rattle.deciding.proofs.Laws.{Left}
 use Rattle.deciding.proofs.decide.Given as goal
 
 abbrev pub invariant-loop-v : goal.invariant-loop-v

@@ -6,11 +6,6 @@ use borrow.Author.Tests.{lt-ltb, le-ltb}
 use Rattle.scope.specs.GeoJson.{ring_set_refused}
 use Rattle.explaining.specs.Fates.{polygon_answer}
 use Rattle.explaining.proofs.polygon_answer.Goals as goal
-use Rattle.explaining.proofs.polygon_answer.Goals.{Else-rings-ring}
-
--- past the tests the set passes, and both rings are there
-passes : (c : Else-rings-ring) → ring_set_refused c.args.points.now c.args.directory.now c.args.rings ≡ false
-passes c = sym c.ring_set_faulty.ensures ∙ c.if-ring_set_faulty.false
 
 pub returns-then-ring_set_faulty : goal.returns-then-ring_set_faulty
 unfolding polygon_answer
@@ -26,9 +21,9 @@ returns-then-rings-ring c =
     rw (sym c.ring_set_faulty.ensures ∙ c.if-ring_set_faulty.false, lt-ltb _ _ c.if-rings-polygon.false, le-ltb _ _ c.if-rings-ring.true)
 
 pub decision_at-requires : goal.decision_at-requires
-decision_at-requires c = (record { passes = passes (goal.at.decision_at-requires c).Else-rings-ring; there = c.if-rings-polygon.false }, record { passes = passes (goal.at.decision_at-requires c).Else-rings-ring; there = c.if-rings-ring.false })
+decision_at-requires c = (record { passes = sym c.ring_set_faulty.ensures ∙ c.if-ring_set_faulty.false; there = c.if-rings-polygon.false }, record { passes = sym c.ring_set_faulty.ensures ∙ c.if-ring_set_faulty.false; there = c.if-rings-ring.false })
 
 pub returns : goal.returns
 unfolding polygon_answer
 returns c =
-    rw (passes (goal.at.returns c).Else-rings-ring, lt-ltb _ _ c.if-rings-polygon.false, lt-ltb _ _ c.if-rings-ring.false, c.decision_at.ensures)
+    rw (sym c.ring_set_faulty.ensures ∙ c.if-ring_set_faulty.false, lt-ltb _ _ c.if-rings-polygon.false, lt-ltb _ _ c.if-rings-ring.false, c.decision_at.ensures)

@@ -7,11 +7,6 @@ use Rattle.scope.specs.GeoJson.{ring_set_refused}
 use Rattle.explaining.specs.Fates.{fate_answer}
 use Rattle.explaining.proofs.Owners.{fate-of, fate-found}
 use Rattle.explaining.proofs.ring_fate.Goals as goal
-use Rattle.explaining.proofs.ring_fate.Goals.{Else-rings-ring}
-
--- past the tests the set passes, and the ring is there
-passes : (c : Else-rings-ring) → ring_set_refused c.args.points.now c.args.directory.now c.args.rings ≡ false
-passes c = sym c.ring_set_faulty.ensures ∙ c.if-ring_set_faulty.false
 
 pub returns-then-ring_set_faulty : goal.returns-then-ring_set_faulty
 unfolding fate_answer
@@ -22,19 +17,19 @@ unfolding fate_answer
 returns-then-rings-ring c = fate-found _ _ _ _ (rw (sym c.ring_set_faulty.ensures ∙ c.if-ring_set_faulty.false, le-ltb _ _ c.if-rings-ring.true))
 
 pub polygon_at-requires : goal.polygon_at-requires
-polygon_at-requires c = record { passes = passes (goal.at.polygon_at-requires c).Else-rings-ring; there = c.if-rings-ring.false }
+polygon_at-requires c = record { passes = sym c.ring_set_faulty.ensures ∙ c.if-ring_set_faulty.false; there = c.if-rings-ring.false }
 
 pub returns-then-polygon_at : goal.returns-then-polygon_at
 unfolding fate_answer
 returns-then-polygon_at c =
-    fate-found _ _ _ _ (rw (passes (goal.at.returns-then-polygon_at c).Else-rings-ring, lt-ltb _ _ c.if-rings-ring.false, fate-of _ _ _ _ c.if-rings-ring.false, sym c.polygon_at.ensures ∙ c.if-polygon_at.true))
+    fate-found _ _ _ _ (rw (sym c.ring_set_faulty.ensures ∙ c.if-ring_set_faulty.false, lt-ltb _ _ c.if-rings-ring.false, fate-of _ _ _ _ c.if-rings-ring.false, sym c.polygon_at.ensures ∙ c.if-polygon_at.true))
 
 pub hole_told-requires : goal.hole_told-requires
 hole_told-requires c =
-    record { passes = passes (goal.at.hole_told-requires c).Else-rings-ring; there = c.if-rings-ring.false }
+    record { passes = sym c.ring_set_faulty.ensures ∙ c.if-ring_set_faulty.false; there = c.if-rings-ring.false }
 
 pub returns : goal.returns
 unfolding fate_answer
 returns c =
     fate-found _ _ _ _
-    (rw (passes (goal.at.returns c).Else-rings-ring, lt-ltb _ _ c.if-rings-ring.false, fate-of _ _ _ _ c.if-rings-ring.false, sym c.polygon_at.ensures ∙ c.if-polygon_at.false, c.hole_told.ensures))
+    (rw (sym c.ring_set_faulty.ensures ∙ c.if-ring_set_faulty.false, lt-ltb _ _ c.if-rings-ring.false, fate-of _ _ _ _ c.if-rings-ring.false, sym c.polygon_at.ensures ∙ c.if-polygon_at.false, c.hole_told.ensures))

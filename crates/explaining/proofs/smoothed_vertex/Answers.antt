@@ -9,14 +9,6 @@ use Rattle.grid.specs.declared.GridFit.TheVariants as fit_is
 use Rattle.grid.proofs.Laws.{a-grid-that-fits-is-sized}
 use Rattle.explaining.specs.Vertices.{on_grid, vertex_answer}
 use Rattle.explaining.proofs.smoothed_vertex.Goals as goal
-use Rattle.explaining.proofs.smoothed_vertex.Goals.{In_default, Start}
-
--- past the fit
-abbrev At-start : In_default → Start
-At-start c = c
-
-fits : (c : In_default) → grid_fit (length (At-start c).args.values.now) (At-start c).args.dx (At-start c).args.dy ≡ fit_is.Fits
-fits c = sym c.grid_fit.ensures ∙ c.in_default.is
 
 pub returns-in-Refused : goal.returns-in-Refused
 unfolding vertex_answer on_grid
@@ -24,15 +16,15 @@ returns-in-Refused c = rw (sym c.grid_fit.ensures ∙ c.in-Refused.is)
 
 pub returns-then-ring_set_faulty : goal.returns-then-ring_set_faulty
 unfolding vertex_answer on_grid
-returns-then-ring_set_faulty c = rw (fits (goal.at.returns-then-ring_set_faulty c).In_default, sym c.ring_set_faulty.ensures ∙ c.if-ring_set_faulty.true)
+returns-then-ring_set_faulty c = rw (sym c.grid_fit.ensures ∙ c.in_default.is, sym c.ring_set_faulty.ensures ∙ c.if-ring_set_faulty.true)
 
 pub overflow_cast-dx : goal.overflow_cast-dx
 unfolding side_limit
-overflow_cast-dx c = omega (arith, a-grid-that-fits-is-sized _ _ _ (fits (goal.at.overflow_cast-dx c).In_default))
+overflow_cast-dx c = omega (arith, a-grid-that-fits-is-sized _ _ _ (sym c.grid_fit.ensures ∙ c.in_default.is))
 
 pub overflow_cast-dy : goal.overflow_cast-dy
 unfolding side_limit
-overflow_cast-dy c = omega (arith, a-grid-that-fits-is-sized _ _ _ (fits (goal.at.overflow_cast-dy c).In_default))
+overflow_cast-dy c = omega (arith, a-grid-that-fits-is-sized _ _ _ (sym c.grid_fit.ensures ∙ c.in_default.is))
 
 pub vertex_told-requires : goal.vertex_told-requires
 vertex_told-requires c = sym c.ring_set_faulty.ensures ∙ c.if-ring_set_faulty.false
@@ -40,4 +32,4 @@ vertex_told-requires c = sym c.ring_set_faulty.ensures ∙ c.if-ring_set_faulty.
 pub returns : goal.returns
 unfolding vertex_answer on_grid
 returns c =
-    rw (fits (goal.at.returns c).In_default, sym c.ring_set_faulty.ensures ∙ c.if-ring_set_faulty.false, c.vertex_told.ensures)
+    rw (sym c.grid_fit.ensures ∙ c.in_default.is, sym c.ring_set_faulty.ensures ∙ c.if-ring_set_faulty.false, c.vertex_told.ensures)

@@ -2,24 +2,10 @@
 use mathlib.Core.Path.{◌≡◌, sym, ap, ◌∙◌}
 use Prim.Native.Nat.{◌<◌}
 use borrow.Author.Rules.{rules}
-use borrow.Author.Tests.{lt-ltb, le-ltb, not-true, not-false}
+use borrow.Author.Tests.{lt-ltb, le-ltb}
 use Rattle.scope.specs.GeoJson.{count_at}
 use Rattle.explaining.specs.Vertices.{midway, vertex_of_ring, vertex_there, vertex_told}
 use Rattle.explaining.proofs.vertex_told.Goals as goal
-use Rattle.explaining.proofs.vertex_told.Goals.{After-midway, Else-record-vertex, Start}
-
--- past the count, the ring has a vertex of this number
-abbrev At-start : Else-record-vertex → Start
-At-start c = c
-
-counted : (c : Else-record-vertex) → (At-start c).args.vertex < count_at (At-start c).args.directory.now (At-start c).args.ring
-counted c = rw c.record_at-record.ensures.1 at c.if-record-vertex.false
-
--- whether it stands midway
-asked : (c : After-midway) → midway (At-start c).args.dx (At-start c).args.dy
-    (vertex_of_ring (At-start c).args.points.now (At-start c).args.directory.now (At-start c).args.ring (At-start c).args.vertex)
-    ≡ c.midway.result
-asked c = ap (midway _ _) (sym c.vertex_at-point.ensures) ∙ sym c.midway.ensures
 
 pub returns-then-rings-ring : goal.returns-then-rings-ring
 unfolding vertex_told vertex_there
@@ -31,20 +17,20 @@ returns-then-record-vertex c =
     rw (lt-ltb _ _ c.if-rings-ring.false, le-ltb _ _ (rw c.record_at-record.ensures.1 at c.if-record-vertex.true))
 
 pub vertex_at-point-requires : goal.vertex_at-point-requires
-vertex_at-point-requires c = (record { passes = (At-start (goal.at.vertex_at-point-requires c).Else-record-vertex).requires; there = c.if-rings-ring.false }, counted (goal.at.vertex_at-point-requires c).Else-record-vertex)
+vertex_at-point-requires c = (record { passes = c.requires; there = c.if-rings-ring.false }, rw c.record_at-record.ensures.1 at c.if-record-vertex.false)
 
 pub returns-then-not-midway : goal.returns-then-not-midway
 unfolding vertex_told vertex_there
 returns-then-not-midway c =
-    rw (lt-ltb _ _ c.if-rings-ring.false, lt-ltb _ _ (counted (goal.at.returns-then-not-midway c).Else-record-vertex), asked (goal.at.returns-then-not-midway c).After-midway ∙ not-true _ c.if-not-midway.true)
+    rw (lt-ltb _ _ c.if-rings-ring.false, lt-ltb _ _ (rw c.record_at-record.ensures.1 at c.if-record-vertex.false), ap (midway _ _) (sym c.vertex_at-point.ensures) ∙ sym c.midway.ensures ∙ c.if-not-midway.true)
 
 pub returns : goal.returns
 unfolding vertex_told vertex_there
 returns c =
     rw (
       lt-ltb _ _ c.if-rings-ring.false,
-      lt-ltb _ _ (counted (goal.at.returns c).Else-record-vertex),
-      asked (goal.at.returns c).After-midway ∙ not-false _ c.if-not-midway.false,
+      lt-ltb _ _ (rw c.record_at-record.ensures.1 at c.if-record-vertex.false),
+      ap (midway _ _) (sym c.vertex_at-point.ensures) ∙ sym c.midway.ensures ∙ c.if-not-midway.false,
       c.vertex_moves.ensures,
       c.vertex_at-point.ensures,
     )

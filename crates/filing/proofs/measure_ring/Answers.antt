@@ -9,9 +9,6 @@ use Rattle.filing.proofs.Measures.{record-there, ring-there}
 use borrow.Author.Rules.{rules}
 use Rattle.filing.proofs.measure_ring.Goals as goal
 
-pub overflow_cast-r : goal.overflow_cast-r
-overflow_cast-r c = omega (arith, c.slice_known-2-1.given (2 * c.args.n + c.args.i))
-
 pub overflow_mul-first : goal.overflow_mul-first
 unfolding rank_of
 overflow_mul-first c = omega (arith, record-there c.requires)
@@ -23,10 +20,6 @@ offset_bounds-directory-r c = omega (arith, record-there c.requires)
 pub bounds-directory-r : goal.bounds-directory-r
 unfolding rank_of
 bounds-directory-r c = omega (arith, record-there c.requires)
-
-pub overflow_cast-first : goal.overflow_cast-first
-unfolding rank_of
-overflow_cast-first c = omega (arith, c.shared_slice_known-3-1.given (4 * rank_of c.args.table.now c.args.n c.args.i))
 
 pub overflow_mul-count : goal.overflow_mul-count
 unfolding rank_of
@@ -43,10 +36,6 @@ offset_bounds-directory-r-2 c = omega (arith, record-there c.requires)
 pub bounds-directory-r-2 : goal.bounds-directory-r-2
 unfolding rank_of
 bounds-directory-r-2 c = omega (arith, record-there c.requires)
-
-pub overflow_cast-count : goal.overflow_cast-count
-unfolding rank_of
-overflow_cast-count c = omega (arith, c.shared_slice_known-4-1.given (4 * rank_of c.args.table.now c.args.n c.args.i + 1))
 
 pub extent_of-extent-requires : goal.extent_of-extent-requires
 unfolding rank_of record_first record_count

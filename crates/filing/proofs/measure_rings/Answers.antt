@@ -1,8 +1,6 @@
 -- `filing::measure_rings` meets its contract. The loop's invariant is `MeasuredTo`: the extents of the rings so far stand by number.
 -- The measure is the number of rings that are left. Assumes nothing.
-use Prim.Native.Nat.{◌-◌}
-use native.Mathlib.Omega.{arith}
-use Rattle.filing.proofs.Measures.{MeasuredTo, measured-begin, measured-asks, measured-next, measured-end}
+use Rattle.filing.proofs.Measures.{measured-begin, measured-asks, measured-next, measured-end}
 use Rattle.filing.proofs.measure_rings.Goals as goal
 
 pub loop-i-init : goal.loop-i-init

@@ -1,8 +1,7 @@
 -- `filing::measure_rings` meets its contract. The loop's invariant is `MeasuredTo`: the extents of the rings so far stand by number.
 -- The measure is the number of rings that are left. Assumes nothing.
 use Prim.Native.Nat.{◌-◌}
-use native.Mathlib.Omega.{arith}
-use Rattle.filing.proofs.Measures.{MeasuredTo, measured-begin, measured-asks, measured-next, measured-end}
+use Rattle.filing.proofs.Measures.{MeasuredTo}
 use Rattle.filing.proofs.measure_rings.Given as goal
 
 abbrev pub invariant-loop-i : goal.invariant-loop-i

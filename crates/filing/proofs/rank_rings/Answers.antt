@@ -1,16 +1,12 @@
 -- `filing::rank_rings` meets its contract. The loop's invariant is `RankedTo`: the records so far stand at their numbers.
 -- The measure is the number of records that are left. Assumes nothing.
-use Prim.Native.Nat.{◌+◌, ◌*◌, ◌-◌}
 use native.Mathlib.Omega.{arith}
 use Rattle.extents.specs.Records.{record_number}
-use Rattle.filing.proofs.Ranks.{RankedTo, ranked-begin, ranked-room, ranked-next, ranked-end}
+use Rattle.filing.proofs.Ranks.{ranked-begin, ranked-room, ranked-next, ranked-end}
 use Rattle.filing.proofs.rank_rings.Goals as goal
 
 pub loop-r-init : goal.loop-r-init
 loop-r-init c = ranked-begin c.requires
-
-pub overflow_cast-number : goal.overflow_cast-number
-overflow_cast-number c = omega (arith, c.shared_slice_known-1.given (4 * c.loop-r.r + 3))
 
 pub overflow_add-table : goal.overflow_add-table
 unfolding record_number

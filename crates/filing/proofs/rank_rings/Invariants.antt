@@ -1,9 +1,7 @@
 -- `filing::rank_rings` meets its contract. The loop's invariant is `RankedTo`: the records so far stand at their numbers.
 -- The measure is the number of records that are left. Assumes nothing.
-use Prim.Native.Nat.{◌+◌, ◌*◌, ◌-◌}
-use native.Mathlib.Omega.{arith}
-use Rattle.extents.specs.Records.{record_number}
-use Rattle.filing.proofs.Ranks.{RankedTo, ranked-begin, ranked-room, ranked-next, ranked-end}
+use Prim.Native.Nat.{◌-◌}
+use Rattle.filing.proofs.Ranks.{RankedTo}
 use Rattle.filing.proofs.rank_rings.Given as goal
 
 abbrev pub invariant-loop-r : goal.invariant-loop-r

@@ -17,7 +17,11 @@ returns-then-text-length c =
 
 pub write_within-requires : goal.write_within-requires
 write_within-requires c =
-    (sym c.ring_set_faulty.ensures ∙ c.if-ring_set_faulty.false, (c.text_length-length.ensures, omega (arith, c.text_length-length.ensures)))
+    record {
+      rings_value = sym c.ring_set_faulty.ensures ∙ c.if-ring_set_faulty.false;
+      end_value = c.text_length-length.ensures;
+      end_in_bounds = omega (arith, c.text_length-length.ensures);
+    }
 
 pub returns : goal.returns
 returns c =

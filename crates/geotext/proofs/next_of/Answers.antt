@@ -1,5 +1,4 @@
 -- `geotext::next_of` meets its contract: each answer is the next point's number in that case. Assumes nothing.
-use native.Mathlib.Omega.{arith}
 use Rattle.geotext.specs.Pieces.{next_of}
 use Rattle.geotext.proofs.next_of.Goals as goal
 

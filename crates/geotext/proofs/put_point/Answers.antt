@@ -1,75 +1,93 @@
 -- `geotext::put_point` meets its contract: after each piece that it writes the others of `point-spelled` are left. Assumes nothing.
-use mathlib.Core.Path.{refl}
+use mathlib.Core.Path.{◌≡◌, refl}
 use mathlib.Core.List.{List, [], ◌∷◌, ◌++◌}
-use Prim.Native.Nat.{ℕ, ◌+◌}
+use Prim.Native.Nat.{ℕ, ◌+◌, ◌≤◌}
 use native.Mathlib.Omega.{arith}
-use lib.ListN.{set}
-use borrow.Author.Rules.{rules}
+use lib.ListN.{length, set}
+use lib.Seq.{sets}
 use Rattle.scope.specs.GeoJson.{coordinate_text, point_text}
 use Rattle.geotext.proofs.Runs.{Left, left-begin, left-as-long, left-room, left-next, left-ends, left-stored}
 use Rattle.geotext.proofs.Rings.{point-spelled}
 use Rattle.geotext.proofs.put_point.Goals as goal
-use Rattle.geotext.proofs.put_point.Goals.{After-put_coordinate-end, After-put_coordinate-middle, Start}
 
-abbrev Writing : Start → List ℕ → ℕ → List ℕ → Type 0
-Writing start = Left start.args.text.now start.args.at (point_text (record { x = start.args.x; y = start.args.y }))
+-- the point's text, written piece by piece: so much of it is left
+module _ (text : List ℕ) (at x y : ℕ) (room : at + length (point_text (record { x = x; y = y })) ≤ length text) where
+  abbrev Writing : List ℕ → ℕ → List ℕ → Type 0
+  Writing = Left text at (point_text (record { x = x; y = y }))
 
--- what is left from y on, from the comma on and from x on
-abbrev from_y : Start → List ℕ
-from_y start = coordinate_text start.args.y ++ (93 ∷ [])
+  -- what is left from y on, from the comma on and from x on
+  abbrev from_y : List ℕ
+  from_y = coordinate_text y ++ (93 ∷ [])
 
-abbrev from_x : Start → List ℕ
-from_x start = coordinate_text start.args.x ++ (44 ∷ from_y start)
+  abbrev from_x : List ℕ
+  from_x = coordinate_text x ++ (44 ∷ from_y)
 
-at-start : (c : Start) → Writing c c.args.text.now c.args.at (91 ∷ from_x c)
-at-start c = left-begin (point-spelled c.args.x c.args.y) c.requires
+  at-start : Writing text at (91 ∷ from_x)
+  at-start = left-begin (point-spelled x y) room
 
-at_x : (c : Start) → Writing c (set c.args.text.now c.args.at 91) (c.args.at + 1) (from_x c)
-at_x c = left-next (91 ∷ []) (from_x c) (at-start c) refl refl
+  at_x : Writing (set text at 91) (at + 1) from_x
+  at_x = left-next (91 ∷ []) from_x at-start refl refl
 
-at-comma : (c : After-put_coordinate-middle) →
-    Writing c c.put_coordinate-middle.new.0 c.put_coordinate-middle.result (44 ∷ from_y c)
-at-comma c =
-    left-next (coordinate_text c.args.x) (44 ∷ from_y c) (at_x c) c.put_coordinate-middle.ensures.0 c.put_coordinate-middle.ensures.1
+  x-room : at + 1 + length (coordinate_text x) ≤ length (set text at 91)
+  x-room = left-room (coordinate_text x) (44 ∷ from_y) at_x
 
-at_y : (c : After-put_coordinate-middle) →
-    Writing c (set c.put_coordinate-middle.new.0 c.put_coordinate-middle.result 44) (c.put_coordinate-middle.result + 1) (from_y c)
-at_y c = left-next (44 ∷ []) (from_y c) (at-comma c) refl refl
+  module _ {t1 : List ℕ} {middle : ℕ} (e1 : middle ≡ at + 1 + length (coordinate_text x)) (f1 : t1 ≡ sets (set text at 91) (at + 1) (coordinate_text x)) where
+    at-comma : Writing t1 middle (44 ∷ from_y)
+    at-comma = left-next (coordinate_text x) (44 ∷ from_y) at_x e1 f1
 
-at_bracket : (c : After-put_coordinate-end) →
-    Writing c c.put_coordinate-end.new.0 c.put_coordinate-end.result (93 ∷ [])
-at_bracket c =
-    left-next (coordinate_text c.args.y) (93 ∷ []) (at_y c) c.put_coordinate-end.ensures.0 c.put_coordinate-end.ensures.1
+    at_y : Writing (set t1 middle 44) (middle + 1) from_y
+    at_y = left-next (44 ∷ []) from_y at-comma refl refl
 
-at-end : (c : After-put_coordinate-end) →
-    Writing c (set c.put_coordinate-end.new.0 c.put_coordinate-end.result 93) (c.put_coordinate-end.result + 1) []
-at-end c = left-next (93 ∷ []) [] (at_bracket c) refl refl
+    y-room : middle + 1 + length (coordinate_text y) ≤ length (set t1 middle 44)
+    y-room = left-room (coordinate_text y) (93 ∷ []) at_y
+
+    module _ {t2 : List ℕ} {end : ℕ} (e2 : end ≡ middle + 1 + length (coordinate_text y)) (f2 : t2 ≡ sets (set t1 middle 44) (middle + 1) (coordinate_text y)) where
+      at_bracket : Writing t2 end (93 ∷ [])
+      at_bracket = left-next (coordinate_text y) (93 ∷ []) at_y e2 f2
+
+      at-end : Writing (set t2 end 93) (end + 1) []
+      at-end = left-next (93 ∷ []) [] at_bracket refl refl
 
 pub bounds-text-at : goal.bounds-text-at
-bounds-text-at c = omega (arith, (at-start (goal.at.bounds-text-at c).Start).room)
+bounds-text-at c = omega (arith, (at-start c.args.text.now c.args.at c.args.x c.args.y c.requires).room)
 
 pub put_coordinate-middle-requires : goal.put_coordinate-middle-requires
-put_coordinate-middle-requires c =
-    left-room (coordinate_text c.args.x) (44 ∷ from_y (goal.at.put_coordinate-middle-requires c).Start) (at_x (goal.at.put_coordinate-middle-requires c).Start)
+put_coordinate-middle-requires c = x-room c.args.text.now c.args.at c.args.x c.args.y c.requires
 
 pub bounds-text-middle : goal.bounds-text-middle
-bounds-text-middle c = omega (arith, (at-comma (goal.at.bounds-text-middle c).After-put_coordinate-middle).room)
+bounds-text-middle c =
+    let d1 = c.put_coordinate-middle.ensures in
+    let s = at-comma c.args.text.now c.args.at c.args.x c.args.y c.requires d1.value d1.text_after in
+    omega (arith, s.room)
 
 pub overflow_add-middle : goal.overflow_add-middle
-overflow_add-middle c = let s = at-comma (goal.at.overflow_add-middle c).After-put_coordinate-middle in omega (arith, s.room, left-as-long s)
+overflow_add-middle c =
+    let d1 = c.put_coordinate-middle.ensures in
+    let s = at-comma c.args.text.now c.args.at c.args.x c.args.y c.requires d1.value d1.text_after in
+    omega (arith, s.room, left-as-long s)
 
 pub put_coordinate-end-requires : goal.put_coordinate-end-requires
 put_coordinate-end-requires c =
-    left-room (coordinate_text c.args.y) (93 ∷ []) (at_y (goal.at.put_coordinate-end-requires c).After-put_coordinate-middle)
+    let d1 = c.put_coordinate-middle.ensures in
+    y-room c.args.text.now c.args.at c.args.x c.args.y c.requires d1.value d1.text_after
 
 pub bounds-text-end : goal.bounds-text-end
-bounds-text-end c = omega (arith, (at_bracket (goal.at.bounds-text-end c).After-put_coordinate-end).room)
+bounds-text-end c =
+    let d1 = c.put_coordinate-middle.ensures in
+    let d2 = c.put_coordinate-end.ensures in
+    let s = at_bracket c.args.text.now c.args.at c.args.x c.args.y c.requires d1.value d1.text_after d2.value d2.text_after in
+    omega (arith, s.room)
 
 pub overflow_add-result : goal.overflow_add-result
-overflow_add-result c = let s = at_bracket (goal.at.overflow_add-result c).After-put_coordinate-end in omega (arith, s.room, left-as-long s)
-
-pub shape_of-text : goal.shape_of-text
-shape_of-text c = left-as-long (at-end (goal.at.shape_of-text c).After-put_coordinate-end)
+overflow_add-result c =
+    let d1 = c.put_coordinate-middle.ensures in
+    let d2 = c.put_coordinate-end.ensures in
+    let s = at_bracket c.args.text.now c.args.at c.args.x c.args.y c.requires d1.value d1.text_after d2.value d2.text_after in
+    omega (arith, s.room, left-as-long s)
 
 pub returns : goal.returns
-returns c = let s = at-end (goal.at.returns c).After-put_coordinate-end in (left-ends s, left-stored s)
+returns c =
+    let d1 = c.put_coordinate-middle.ensures in
+    let d2 = c.put_coordinate-end.ensures in
+    let s = at-end c.args.text.now c.args.at c.args.x c.args.y c.requires d1.value d1.text_after d2.value d2.text_after in
+    record { value = left-ends s; text_after = left-stored s }

@@ -8,7 +8,7 @@ use Rattle.scope.specs.Area.{points}
 use Rattle.scope.specs.GeoJson.{words_in, written_order}
 use Rattle.geotext.specs.Pieces.{point_texts}
 use Rattle.geotext.proofs.Runs.{Left, left-as-long, left-ends, left-stored}
-use Rattle.geotext.proofs.Rings.{PointsLeft, next-within, points-begin, points-end, point-room, points-comma, points-next, points-last}
+use Rattle.geotext.proofs.Rings.{next-within, points-begin, points-end, point-room, points-comma, points-next, points-last}
 use Rattle.geotext.proofs.put_points.Goals as goal
 use Rattle.geotext.proofs.put_points.Goals.{After-next_of, Then-left-gt0}
 
@@ -16,22 +16,22 @@ use Rattle.geotext.proofs.put_points.Goals.{After-next_of, Then-left-gt0}
 words-there : (c : After-next_of) →
     2 * (c.args.first + c.next_of.result) + 2 ≤ length c.args.points.now
 words-there c =
-    omega (arith, c.next_of.ensures, next-within c.args.count c.loop-left.left c.args.back c.loop-left-test.true c.loop-left.invariant.within, c.requires.0)
+    omega (arith, c.next_of.ensures, next-within c.args.count c.loop-left.left c.args.back c.loop-left-test.true c.loop-left.invariant.within, c.requires.count_in_bounds)
 
 -- where another point follows, the comma is left
 at-comma : (c : Then-left-gt0) →
     let ring = written_order c.args.back (points (words_in c.args.points.now c.args.first c.args.count)) in
-    Left c.args.text.now c.args.at (point_texts ring) c.put_point-place.new.0 c.put_point-place.result
+    Left c.args.text.now c.args.at (point_texts ring) c.put_point-place.new.text c.put_point-place.result
     (44 ∷ point_texts (drop (c.args.count - (c.loop-left.left - 1)) ring))
 at-comma c =
-    points-comma c.requires.0 c.loop-left.invariant c.loop-left-test.true c.next_of.ensures
-    c.put_point-place.ensures.0 c.put_point-place.ensures.1 c.if-left-gt0.true
+    points-comma c.requires.count_in_bounds c.loop-left.invariant c.loop-left-test.true c.next_of.ensures
+    c.put_point-place.ensures.value c.put_point-place.ensures.text_after c.if-left-gt0.true
 
 pub loop-left-init : goal.loop-left-init
-loop-left-init c = points-begin c.requires.1
+loop-left-init c = points-begin c.requires.count_in_bounds_2
 
 pub next_of-requires : goal.next_of-requires
-next_of-requires c = (c.loop-left-test.true, c.loop-left.invariant.within)
+next_of-requires c = record { left_nonzero = c.loop-left-test.true; left_le_count = c.loop-left.invariant.within }
 
 pub overflow_add-i : goal.overflow_add-i
 overflow_add-i c = omega (arith, words-there (goal.at.overflow_add-i c).After-next_of)
@@ -56,7 +56,7 @@ bounds-points-i-in-loop-left c = omega (arith, words-there (goal.at.bounds-point
 
 pub put_point-place-requires : goal.put_point-place-requires
 put_point-place-requires c =
-    point-room c.requires.0 c.loop-left.invariant c.loop-left-test.true c.next_of.ensures
+    point-room c.requires.count_in_bounds c.loop-left.invariant c.loop-left-test.true c.next_of.ensures
 
 pub bounds-text-place : goal.bounds-text-place
 bounds-text-place c = omega (arith, (at-comma (goal.at.bounds-text-place c).Then-left-gt0).room)
@@ -66,18 +66,18 @@ overflow_add-place c = let s = at-comma (goal.at.overflow_add-place c).Then-left
 
 pub loop-left-preserved-then-left-gt0 : goal.loop-left-preserved-then-left-gt0
 loop-left-preserved-then-left-gt0 c =
-    points-next c.requires.0 c.loop-left.invariant c.loop-left-test.true c.next_of.ensures
-    c.put_point-place.ensures.0 c.put_point-place.ensures.1 c.if-left-gt0.true
+    points-next c.requires.count_in_bounds c.loop-left.invariant c.loop-left-test.true c.next_of.ensures
+    c.put_point-place.ensures.value c.put_point-place.ensures.text_after c.if-left-gt0.true
 
 pub loop-left-preserved : goal.loop-left-preserved
 loop-left-preserved c =
-    points-last c.requires.0 c.loop-left.invariant c.loop-left-test.true c.next_of.ensures
-    c.put_point-place.ensures.0 c.put_point-place.ensures.1 c.if-left-gt0.false
+    points-last c.requires.count_in_bounds c.loop-left.invariant c.loop-left-test.true c.next_of.ensures
+    c.put_point-place.ensures.value c.put_point-place.ensures.text_after c.if-left-gt0.false
 
 pub shape_of-text : goal.shape_of-text
 shape_of-text c = left-as-long c.loop-left.invariant.unwritten
 
 pub returns : goal.returns
 returns c =
-    let s = points-end c.requires.0 c.loop-left.invariant c.loop-left-test.false in
-    (left-ends s, left-stored s)
+    let s = points-end c.requires.count_in_bounds c.loop-left.invariant c.loop-left-test.false in
+    record { value = left-ends s; text_after = left-stored s }

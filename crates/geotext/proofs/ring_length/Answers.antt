@@ -1,9 +1,8 @@
 -- `geotext::ring_length` meets its contract. The loop's invariant is `LengthLeft`: the lengths of the words not yet passed are left to add. The measure is the
 -- number of those words. Assumes nothing.
 use mathlib.Core.Path.{sym}
-use Prim.Native.Nat.{◌+◌, ◌-◌, ◌*◌}
+use Prim.Native.Nat.{◌+◌, ◌*◌}
 use native.Mathlib.Omega.{arith}
-use borrow.Author.Rules.{rules}
 use Rattle.scope.specs.Limits.{point_limit}
 use Rattle.geotext.proofs.Lengths.{empty-ring-length}
 use Rattle.geotext.proofs.Rings.{LengthLeft, length-begin, length-next, length-end}
@@ -16,8 +15,8 @@ one_more : (c : After-coordinate_length-sum) →
     (c.loop-i.sum + c.coordinate_length-sum.result)
 one_more c =
     rw c.coordinate_length-sum.ensures
-    (length-next c.requires.0 c.loop-i.invariant c.loop-i-test.true
-    (c.shared_slice_known-in-loop-i-1.given c.loop-i.i).fits)
+    (length-next c.requires.count_in_bounds c.loop-i.invariant c.loop-i-test.true
+    (c.type_inv.points c.loop-i.i).fits)
 
 pub returns-then-count-eq0 : goal.returns-then-count-eq0
 returns-then-count-eq0 c =
@@ -28,10 +27,10 @@ pub loop-i-init : goal.loop-i-init
 loop-i-init c = length-begin _ _ _
 
 pub offset_bounds-points-i : goal.offset_bounds-points-i
-offset_bounds-points-i c = omega (arith, c.requires.0)
+offset_bounds-points-i c = omega (arith, c.requires.count_in_bounds)
 
 pub bounds-points-i : goal.bounds-points-i
-bounds-points-i c = omega (arith, c.requires.0)
+bounds-points-i c = omega (arith, c.requires.count_in_bounds)
 
 pub overflow_add-sum : goal.overflow_add-sum
 overflow_add-sum c = omega (arith, (one_more (goal.at.overflow_add-sum c).After-coordinate_length-sum).short, (one_more (goal.at.overflow_add-sum c).After-coordinate_length-sum).within, c.requires)
@@ -49,4 +48,4 @@ overflow_add-result-2 c = omega arith
 
 pub returns : goal.returns
 returns c =
-    sym (length-end c.requires.0 c.loop-i.invariant c.loop-i-test.false (omega arith))
+    sym (length-end c.requires.count_in_bounds c.loop-i.invariant c.loop-i-test.false (omega arith))

@@ -10,7 +10,7 @@ use Rattle.geotext.proofs.share_of.Goals as goal
 pub ring_length-requires : goal.ring_length-requires
 ring_length-requires c =
     let set = sound-shape c.args.points.now c.args.«record» c.requires in
-    (set.within, set.few)
+    record { count_in_bounds = set.within; count_le_point_limit = set.few }
 
 pub overflow_add-result : goal.overflow_add-result
 unfolding point_limit ring_bytes
@@ -30,7 +30,7 @@ returns-then-record-eq-NO_OWNER c =
 pub ring_length-requires-2 : goal.ring_length-requires-2
 ring_length-requires-2 c =
     let set = sound-shape c.args.points.now c.args.«record» c.requires in
-    (set.within, set.few)
+    record { count_in_bounds = set.within; count_le_point_limit = set.few }
 
 pub overflow_add-result-2 : goal.overflow_add-result-2
 unfolding point_limit ring_bytes

@@ -1,10 +1,9 @@
 -- `geotext::text_length` meets its contract. The loop's invariant: the sum is the shares of the records so far. The measure is the number of the other
 -- records. Assumes nothing.
 use mathlib.Core.Path.{◌≡◌, refl, sym, ap, ◌∙◌}
-use Prim.Native.Nat.{suc, ◌+◌, ◌-◌, ◌^◌, ◌≤◌, ◌<◌}
+use Prim.Native.Nat.{suc, ◌+◌, ◌^◌, ◌<◌}
 use native.Mathlib.Numerals.{add-one}
 use native.Mathlib.Omega.{arith}
-use borrow.Author.Rules.{rules}
 use Rattle.scope.specs.Limits.{no_owner}
 use Rattle.scope.specs.Pairs.{sum_from}
 use Rattle.laws.proofs.Sums.{sum-last}

@@ -11,7 +11,7 @@ use Rattle.giving.proofs.file_lines.Goals as goal
 
 pub loop-i-init : goal.loop-i-init
 unfolding slots_filed
-loop-i-init c = (omega arith, refl, search rules)
+loop-i-init c = (omega arith, refl)
 
 pub loop-i-preserved : goal.loop-i-preserved
 loop-i-preserved c =
@@ -21,9 +21,6 @@ loop-i-preserved c =
           (c.column_word.ensures ∙ rw c.slot_at-line.ensures) c.put-in-loop-i.ensures,
       search rules,
     )
-
-pub shape_of-lines : goal.shape_of-lines
-shape_of-lines c = c.loop-i.invariant.2
 
 pub returns : goal.returns
 returns c =

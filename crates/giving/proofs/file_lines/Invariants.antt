@@ -10,7 +10,7 @@ use Rattle.giving.proofs.Walks.{one-slot-more}
 use Rattle.giving.proofs.file_lines.Given as goal
 
 abbrev pub invariant-loop-i : goal.invariant-loop-i
-invariant-loop-i l = (l.i ≤ l.count) × (l.lines ≡ slots_filed l.dx l.links l.initial.lines l.i) × (length l.lines ≡ length l.initial.lines)
+invariant-loop-i l = (l.i ≤ l.count) × (l.lines ≡ slots_filed l.dx l.links l.initial.lines l.i)
 
 abbrev pub decreases-loop-i : goal.decreases-loop-i
 decreases-loop-i l = l.count - l.i

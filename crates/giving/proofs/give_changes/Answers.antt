@@ -1,5 +1,5 @@
--- `giving::give_changes` meets its contract. The loop's invariant: the tables and the counts are those after the cells that are seen, the bits of the others
--- are left, and the tables keep their lengths. The measure is how many are left. Assumes nothing.
+-- `giving::give_changes` meets its contract. The loop's invariant: the tables and the counts are those after the cells that are seen, and the bits of the
+-- others are left. The measure is how many are left. Assumes nothing.
 use mathlib.Core.Path.{◌≡◌, refl, ◌∙◌, subst}
 use Prim.Native.Nat.{◌-◌}
 use native.Mathlib.Omega.{arith}
@@ -16,7 +16,7 @@ use Rattle.giving.proofs.give_changes.Goals as goal
 
 pub loop-rest-init : goal.loop-rest-init
 loop-rest-init c =
-    (unseen-begin _ _ _ c.requires.shows c.requires.changes_value, word-begun _ _ _, refl, refl, refl, refl)
+    (unseen-begin _ _ _ c.requires.shows c.requires.changes_value, word-begun _ _ _)
 
 pub overflow_add-j : goal.overflow_add-j
 overflow_add-j c = omega (arith, (unseen-next _ _ _ c.loop-rest.invariant.0 (λ z. omega arith)).in-word)
@@ -25,18 +25,6 @@ pub overflow_add-c : goal.overflow_add-c
 unfolding side_limit
 overflow_add-c c =
     omega (arith, c.requires.within.columns, c.requires.within.column, (unseen-next _ _ _ c.loop-rest.invariant.0 (λ z. omega arith)).in-word)
-
-pub shape_of-lines-then-dx-c : goal.shape_of-lines-then-dx-c
-shape_of-lines-then-dx-c c = c.loop-rest.invariant.2
-
-pub shape_of-links-then-dx-c : goal.shape_of-links-then-dx-c
-shape_of-links-then-dx-c c = c.loop-rest.invariant.3
-
-pub shape_of-points-then-dx-c : goal.shape_of-points-then-dx-c
-shape_of-points-then-dx-c c = c.loop-rest.invariant.4
-
-pub shape_of-directory-then-dx-c : goal.shape_of-directory-then-dx-c
-shape_of-directory-then-dx-c c = c.loop-rest.invariant.5
 
 pub returns-then-dx-c : goal.returns-then-dx-c
 returns-then-dx-c c =
@@ -78,23 +66,7 @@ loop-rest-preserved c =
       active-swept _ _ _ (still _ _ _) _ next so_far.1
           (c.give_cell-next.ensures
           ∙ cell-of _ _ _ _ _ c.if-dx-c.false (c.number_in-number.ensures ∙ number-shown _ _ _ c.requires.shows next.in-word)),
-      kept.0 ∙ so_far.2,
-      kept.1.0 ∙ so_far.3,
-      kept.1.1.0 ∙ so_far.4,
-      kept.1.1.1.0 ∙ so_far.5,
     )
-
-pub shape_of-lines : goal.shape_of-lines
-shape_of-lines c = c.loop-rest.invariant.2
-
-pub shape_of-links : goal.shape_of-links
-shape_of-links c = c.loop-rest.invariant.3
-
-pub shape_of-points : goal.shape_of-points
-shape_of-points c = c.loop-rest.invariant.4
-
-pub shape_of-directory : goal.shape_of-directory
-shape_of-directory c = c.loop-rest.invariant.5
 
 pub returns : goal.returns
 returns c =

@@ -1,5 +1,5 @@
--- `giving::give_changes` meets its contract. The loop's invariant: the tables and the counts are those after the cells that are seen, the bits of the others
--- are left, and the tables keep their lengths. The measure is how many are left. Assumes nothing.
+-- `giving::give_changes` meets its contract. The loop's invariant: the tables and the counts are those after the cells that are seen, and the bits of the
+-- others are left. The measure is how many are left. Assumes nothing.
 use mathlib.Core.Path.{◌≡◌, refl, ◌∙◌, subst}
 use Prim.Native.Nat.{◌-◌}
 use native.Mathlib.Omega.{arith}
@@ -17,10 +17,6 @@ use Rattle.giving.proofs.give_changes.Given as goal
 abbrev pub invariant-loop-rest : goal.invariant-loop-rest
 invariant-loop-rest l = Unseen (between l.upper l.lower) 0 l.c l.at l.rest
     × (given_of l.lines l.links l.points l.directory l.play ≡ swept (cell_given (between l.upper l.lower) l.dx l.r) (given_of l.initial.lines l.initial.links l.initial.points l.initial.directory l.initial.play) l.c l.at)
-    × (length l.lines ≡ length l.initial.lines)
-    × (length l.links ≡ length l.initial.links)
-    × (length l.points ≡ length l.initial.points)
-    × (length l.directory ≡ length l.initial.directory)
 
 abbrev pub decreases-loop-rest : goal.decreases-loop-rest
 decreases-loop-rest l = 64 - l.at

@@ -1,5 +1,5 @@
--- `giving::give_row` meets its contract. The loop's invariant: the tables and the counts are those after the cells of the words so far, the samples on the left
--- of the next cell are known, and the tables keep their lengths. The measure is the number of words left. Assumes nothing.
+-- `giving::give_row` meets its contract. The loop's invariant: the tables and the counts are those after the cells of the words so far, and the samples on
+-- the left of the next cell are known. The measure is the number of words left. Assumes nothing.
 use mathlib.Core.Path.{◌≡◌, refl, ◌∙◌}
 use Prim.Native.Nat.{◌+◌, ◌*◌, ◌-◌, ◌≤◌}
 use native.Mathlib.Omega.{arith}
@@ -14,7 +14,7 @@ use Rattle.giving.specs.Values.{given_of}
 use Rattle.giving.proofs.give_row.Goals as goal
 
 pub loop-w-init : goal.loop-w-init
-loop-w-init c = (beside-begins _ _, row-begun _ _, omega arith, refl, refl, refl, refl)
+loop-w-init c = (beside-begins _ _, row-begun _ _, omega arith)
 
 pub overflow_mul-w : goal.overflow_mul-w
 unfolding side_limit
@@ -25,7 +25,7 @@ unfolding side_limit
 row_word-upper_word-requires c = omega (arith, c.requires.columns)
 
 pub row_word-lower_word-requires : goal.row_word-lower_word-requires
-row_word-lower_word-requires c = row-word-requires c κs
+row_word-lower_word-requires c = omega (arith, c.requires.columns)
 
 pub overflow_mul-w-in-loop-w : goal.overflow_mul-w-in-loop-w
 unfolding side_limit
@@ -38,7 +38,7 @@ overflow_cast-w c = omega arith
 pub give_changes-next-requires : goal.give_changes-next-requires
 give_changes-next-requires c =
     let upper-word = c.row_word-upper_word in
-    let lower_word = c.row_word-lower_word in record { within = record { columns = c.requires.columns; column = omega arith; row = c.requires.row }; shows = pane-between _ _ c.loop-w.invariant.0 upper-word.ensures lower_word.ensures (omega (arith, upper-word.type-inv)) (omega (arith, lower_word.type-inv))
+    let lower_word = c.row_word-lower_word in record { within = record { columns = c.requires.columns; column = omega arith; row = c.requires.row }; shows = pane-between _ _ c.loop-w.invariant.0 upper-word.ensures lower_word.ensures (omega arith) (omega arith)
             c.pane_of-pane.ensures; changes_value = c.changes_in-changes.ensures }
 
 pub overflow_add-w : goal.overflow_add-w
@@ -49,27 +49,11 @@ overflow_add-w c =
 pub loop-w-preserved : goal.loop-w-preserved
 loop-w-preserved c =
     let so_far = c.loop-w.invariant in
-    let kept = c.give_changes-next.auto.1.1.1.1.1.1.1 in (
+    (
       beside-next _ _ _ c.row_word-upper_word.ensures c.row_word-lower_word.ensures c.bit_at-upper_left.ensures c.bit_at-lower_left.ensures,
       word_more _ _ _ so_far.1 c.give_changes-next.ensures,
       omega (arith, c.loop-w-test.true),
-      kept.0 ∙ so_far.3,
-      kept.1.0 ∙ so_far.4,
-      kept.1.1.0 ∙ so_far.5,
-      kept.1.1.1.0 ∙ so_far.6,
     )
-
-pub shape_of-lines : goal.shape_of-lines
-shape_of-lines c = c.loop-w.invariant.3
-
-pub shape_of-links : goal.shape_of-links
-shape_of-links c = c.loop-w.invariant.4
-
-pub shape_of-points : goal.shape_of-points
-shape_of-points c = c.loop-w.invariant.5
-
-pub shape_of-directory : goal.shape_of-directory
-shape_of-directory c = c.loop-w.invariant.6
 
 pub returns : goal.returns
 unfolding row_given

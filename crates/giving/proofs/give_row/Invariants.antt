@@ -1,5 +1,5 @@
--- `giving::give_row` meets its contract. The loop's invariant: the tables and the counts are those after the cells of the words so far, the samples on the left
--- of the next cell are known, and the tables keep their lengths. The measure is the number of words left. Assumes nothing.
+-- `giving::give_row` meets its contract. The loop's invariant: the tables and the counts are those after the cells of the words so far, and the samples on
+-- the left of the next cell are known. The measure is the number of words left. Assumes nothing.
 use mathlib.Core.Path.{◌≡◌, refl, ◌∙◌}
 use Prim.Native.Nat.{◌+◌, ◌*◌, ◌-◌, ◌≤◌}
 use native.Mathlib.Omega.{arith}
@@ -17,10 +17,6 @@ abbrev pub invariant-loop-w : goal.invariant-loop-w
 invariant-loop-w l = Beside l.upper l.lower l.w l.upper_left l.lower_left
     × (given_of l.lines l.links l.points l.directory l.play ≡ swept (cell_given (between l.upper l.lower) l.dx l.r) (given_of l.initial.lines l.initial.links l.initial.points l.initial.directory l.initial.play) 0 (64 * l.w))
     × (64 * l.w ≤ l.dx + 64)
-    × (length l.lines ≡ length l.initial.lines)
-    × (length l.links ≡ length l.initial.links)
-    × (length l.points ≡ length l.initial.points)
-    × (length l.directory ≡ length l.initial.directory)
 
 abbrev pub decreases-loop-w : goal.decreases-loop-w
 decreases-loop-w l = l.dx + 64 - 64 * l.w

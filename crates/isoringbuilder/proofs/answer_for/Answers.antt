@@ -1,5 +1,4 @@
 -- `isoringbuilder::answer_for` meets its contract: each test is one of the verdict's. Assumes nothing.
-use borrow.Author.Rules.{rules}
 use borrow.Author.Tests.{lt-ltb, le-ltb}
 use Prim.Native.Nat.{◌*◌}
 use native.Mathlib.Omega.{arith}

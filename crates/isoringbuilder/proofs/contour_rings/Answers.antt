@@ -3,7 +3,6 @@
 use native.Mathlib.Omega.{arith}
 use Rattle.isoringbuilder.proofs.Limits.{columns-fit}
 use Rattle.isoringbuilder.proofs.Laws.{done-facts, rings-refused, built-done}
-use borrow.Author.Rules.{rules}
 use Rattle.isoringbuilder.proofs.contour_rings.Goals as goal
 
 pub overflow_cast-dx : goal.overflow_cast-dx

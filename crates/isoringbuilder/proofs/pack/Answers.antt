@@ -1,7 +1,6 @@
 -- `isoringbuilder::pack` meets its contract: the answer says whether the outputs are spared or the walk along the links stores them. Assumes nothing.
 use Rattle.scope.specs.Limits.{record_stride}
 use Rattle.isoringbuilder.proofs.Packing.{short_records, spared, stored, as-packed}
-use borrow.Author.Rules.{rules}
 use Rattle.isoringbuilder.proofs.pack.Goals as goal
 
 pub returns-in_default : goal.returns-in_default
@@ -12,4 +11,4 @@ pub returns : goal.returns
 unfolding record_stride
 returns c =
     let walked = c.write_rings.ensures in
-    rw (walked.0, walked.1) (as-packed (stored _ short_records _ _ _ _ _ c.answer_for-answer.ensures _ c.in-Rings.is))
+    rw (walked.points_after, walked.directory_after) (as-packed (stored _ short_records _ _ _ _ _ c.answer_for-answer.ensures _ c.in-Rings.is))

@@ -7,7 +7,6 @@ use Rattle.scan.specs.Scanned.{scanned}
 use Rattle.scan.specs.declared.Counts.{Counts}
 use Rattle.grid.proofs.Laws.{a-grid-that-fits-is-sized}
 use Rattle.isoringbuilder.proofs.Passing.{lines-short, links-short, done}
-use borrow.Author.Rules.{rules}
 use Rattle.isoringbuilder.proofs.pass_over.Goals as goal
 
 pub scan-counts-requires : goal.scan-counts-requires

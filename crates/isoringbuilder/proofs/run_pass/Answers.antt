@@ -2,7 +2,6 @@
 -- Assumes nothing.
 use mathlib.Core.Path.{sym, ◌∙◌}
 use Rattle.isoringbuilder.proofs.Passing.{grid-refused}
-use borrow.Author.Rules.{rules}
 use Rattle.isoringbuilder.proofs.run_pass.Goals as goal
 
 pub pass_over-requires : goal.pass_over-requires

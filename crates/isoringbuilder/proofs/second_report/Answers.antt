@@ -6,7 +6,6 @@ use native.Mathlib.Omega.{arith}
 use Rattle.isoringbuilder.specs.declared.Drawing.{Drawing}
 use Rattle.isoringbuilder.proofs.Limits.{points-fit}
 use Rattle.isoringbuilder.proofs.Laws.{done-facts, report-refused, reported-done}
-use borrow.Author.Rules.{rules}
 use Rattle.isoringbuilder.proofs.second_report.Goals as goal
 
 pub overflow_add-points : goal.overflow_add-points

@@ -13,4 +13,4 @@ pub returns : goal.returns
 unfolding record_stride
 returns c =
     let walked = c.write_lines.ensures in
-    rw (walked.0, walked.1) (as-plotted (stored _ (line_records _) _ _ _ _ _ c.answer_for-answer.ensures _ c.in-Rings.is))
+    rw (walked.points_after, walked.directory_after) (as-plotted (stored _ (line_records _) _ _ _ _ _ c.answer_for-answer.ensures _ c.in-Rings.is))

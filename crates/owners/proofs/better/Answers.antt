@@ -1,6 +1,5 @@
 -- `owners::better` meets its contract: each way out is one of the definition's. Assumes nothing.
 use native.Mathlib.Omega.{arith}
-use borrow.Author.Rules.{rules}
 use Rattle.extents.specs.Records.{record_class}
 use Rattle.owners.proofs.Least.{comes-later, no-polygon, not_taken, taken}
 use Rattle.owners.proofs.better.Goals as goal

@@ -1,9 +1,7 @@
 -- `owners::class_all` meets its contract. The loop's invariant is `ClassedTo`: the records of the numbers so far have their classes, and every other word is as it
 -- was. The measure is how many numbers are left. Assumes nothing.
 use Prim.Native.Nat.{◌-◌}
-use native.Mathlib.Omega.{arith}
-use borrow.Author.Rules.{rules}
-use Rattle.owners.proofs.Words.{ClassedTo, stored-begin, classed-filed, classed-next, classed-end}
+use Rattle.owners.proofs.Words.{ClassedTo}
 use Rattle.owners.proofs.class_all.Given as goal
 
 abbrev pub invariant-loop-i : goal.invariant-loop-i

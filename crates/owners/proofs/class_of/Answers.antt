@@ -1,5 +1,4 @@
 -- `owners::class_of` meets its contract: an even number of takers is a polygon, an odd one an interior. Assumes nothing.
-use borrow.Author.Rules.{rules}
 use Rattle.owners.specs.Owned.{class_in}
 use Rattle.owners.specs.Searched.{evenly_taken}
 use Rattle.owners.proofs.class_of.Goals as goal

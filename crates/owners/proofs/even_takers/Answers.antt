@@ -1,10 +1,8 @@
 -- `owners::even_takers` meets its contract. The loop's invariant is `Counting`: of the numbers so far, looked at or passed over, an even number take the ring
 -- or an odd one. The measure is how many numbers are left. Assumes nothing.
 use mathlib.Core.Bool.{xor}
-use Prim.Native.Nat.{◌-◌}
 use native.Mathlib.Omega.{arith}
-use borrow.Author.Rules.{rules}
-use Rattle.owners.proofs.Searches.{ranked-of, sought, Counting, counting-begin, counting-next, counting-end}
+use Rattle.owners.proofs.Searches.{ranked-of, sought, counting-begin, counting-next, counting-end}
 use Rattle.owners.proofs.even_takers.Goals as goal
 
 pub loop-i-init : goal.loop-i-init

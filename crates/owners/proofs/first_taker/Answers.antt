@@ -1,10 +1,8 @@
 -- `owners::first_taker` meets its contract. The loop's invariant is `Choosing`: of the numbers so far, looked at or passed over, the best is the first polygon
 -- that takes the ring. The measure is how many numbers are left. Assumes nothing.
-use Prim.Native.Nat.{◌-◌}
 use native.Mathlib.Omega.{arith}
-use borrow.Author.Rules.{rules}
 use Rattle.scope.specs.Limits.{no_owner}
-use Rattle.owners.proofs.Searches.{ranked-of, sought, Choosing, choosing-begin, choosing-next, choosing-end}
+use Rattle.owners.proofs.Searches.{ranked-of, sought, choosing-begin, choosing-next, choosing-end}
 use Rattle.owners.proofs.first_taker.Goals as goal
 
 pub loop-i-init : goal.loop-i-init

@@ -1,6 +1,5 @@
 -- `owners::other_takes` meets its contract: the ring itself is none of the others, and any other is asked. Assumes nothing.
 use native.Mathlib.Omega.{arith}
-use borrow.Author.Rules.{rules}
 use Rattle.owners.proofs.Takers.{itself, another}
 use Rattle.owners.proofs.other_takes.Goals as goal
 

@@ -1,9 +1,6 @@
 -- `owners::own_all` meets its contract. The loop's invariant is `OwnedTo`: the records of the numbers so far have their owners, and every other word is as it
 -- was. The measure is how many numbers are left. Assumes nothing.
-use Prim.Native.Nat.{◌-◌}
-use native.Mathlib.Omega.{arith}
-use borrow.Author.Rules.{rules}
-use Rattle.owners.proofs.Words.{OwnedTo, stored-begin, owned-filed, owned-next, owned-end}
+use Rattle.owners.proofs.Words.{stored-begin, owned-filed, owned-next, owned-end}
 use Rattle.owners.proofs.own_all.Goals as goal
 
 pub loop-i-init : goal.loop-i-init

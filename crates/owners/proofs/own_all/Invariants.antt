@@ -1,9 +1,7 @@
 -- `owners::own_all` meets its contract. The loop's invariant is `OwnedTo`: the records of the numbers so far have their owners, and every other word is as it
 -- was. The measure is how many numbers are left. Assumes nothing.
 use Prim.Native.Nat.{◌-◌}
-use native.Mathlib.Omega.{arith}
-use borrow.Author.Rules.{rules}
-use Rattle.owners.proofs.Words.{OwnedTo, stored-begin, owned-filed, owned-next, owned-end}
+use Rattle.owners.proofs.Words.{OwnedTo}
 use Rattle.owners.proofs.own_all.Given as goal
 
 abbrev pub invariant-loop-i : goal.invariant-loop-i

@@ -1,5 +1,4 @@
 -- `owners::owner_of` meets its contract: the class of the record decides. Assumes nothing.
-use borrow.Author.Rules.{rules}
 use Rattle.extents.specs.Records.{record_class}
 use Rattle.owners.proofs.Least.{owns-itself, owned_by}
 use Rattle.owners.proofs.owner_of.Goals as goal

@@ -2,7 +2,6 @@
 use mathlib.Core.Path.{refl}
 use Prim.Native.Nat.{◌+◌, ◌*◌}
 use native.Mathlib.Omega.{arith}
-use borrow.Author.Rules.{rules}
 use Rattle.scope.specs.Limits.{no_owner}
 use Rattle.extents.specs.Records.{rank_of}
 use Rattle.extents.proofs.Permutes.{taken-below}
@@ -16,5 +15,5 @@ returns c =
     record {
       is-rank = refl;
       below = taken-below (rank_of args.table.now args.n) args.n asked.1 args.number asked.2;
-      fits = omega (arith, c.shared_slice_known-1.given (2 * args.n + args.number));
+      fits = omega (arith, c.type_inv.table (2 * args.n + args.number));
     }

@@ -1,14 +1,10 @@
 -- `owners::reach_at` meets its contract: the code's test is the definition's. Assumes nothing.
 use mathlib.Core.Path.{◌≡◌}
 use Prim.Native.Nat.{◌≤◌, ◌<◌}
-use borrow.Author.Rules.{rules}
 use borrow.Author.Tests.{lt-ltb, le-ltb}
 use Rattle.extents.specs.declared.Extent.{Extent}
 use Rattle.extents.specs.Extents.{everything, reach}
 use Rattle.extents.specs.Ladders.{item_extent}
-use Rattle.owners.proofs.reach_at.Reads as reads
-use Rattle.owners.proofs.reach_at.Lts as lts
-use Rattle.extents.proofs.extent_at.Reads as extent-at-reads
 use Rattle.owners.proofs.reach_at.Goals as goal
 
 -- more than one row, or one alone

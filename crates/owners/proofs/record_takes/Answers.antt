@@ -5,7 +5,6 @@ use Prim.Native.Nat.{ℕ, ◌+◌, ◌*◌, ◌<◌}
 use lib.ListN.{get_or}
 use Rattle.extents.specs.Points.{ring_in, RingThere}
 use Rattle.extents.specs.Records.{record_first, record_count, record_ring, RingsThere}
-use borrow.Author.Rules.{rules}
 use Rattle.owners.proofs.record_takes.Goals as goal
 
 -- the two words of a record are its ring

@@ -1,7 +1,6 @@
 -- `regions::own_contour` meets its contract. What noting leaves is the order by number, so the rings are there to be filed and their numbers permute; with
 -- the owners found, the directory is by law the contour's. Assumes nothing.
 use native.Mathlib.Omega.{arith}
-use borrow.Author.Rules.{rules}
 use Rattle.regions.proofs.Arranged.{noted-arranged, rings-there, numbers-permute}
 use Rattle.regions.proofs.Regions.{contour-written}
 use Rattle.regions.proofs.own_contour.Goals as goal

@@ -1,6 +1,5 @@
 -- `smoothing::coordinate_moves` meets its contract: both arms are the definition's. Assumes nothing.
 use mathlib.Core.Path.{sym, ◌∙◌}
-use borrow.Author.Rules.{rules}
 use Rattle.smoothing.specs.Coordinates.{coordinate_moves}
 use Rattle.smoothing.proofs.coordinate_moves.Goals as goal
 

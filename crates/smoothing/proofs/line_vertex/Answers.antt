@@ -1,5 +1,4 @@
 -- `smoothing::line_vertex` meets its contract: what is placed is the definition's vertex, smoothed or not. Assumes nothing.
-use borrow.Author.Rules.{rules}
 use Rattle.scope.specs.Smoothing.{smoothed, unsmoothed, line_vertex}
 use Rattle.smoothing.specs.Values.{vertex_of}
 use Rattle.smoothing.proofs.line_vertex.Goals as goal
@@ -8,7 +7,7 @@ pub returns-then-smooth : goal.returns-then-smooth
 unfolding line_vertex smoothed vertex_of
 returns-then-smooth c =
     rw (
-      c.placed_at_lem.ensures,
+      c.placed_at.ensures,
       c.smoothed-then-smooth.ensures,
       c.smoothed.ensures,
       c.before_in_column-in_column.ensures.0,
@@ -26,6 +25,6 @@ returns-else-smooth c =
     rw (
       c.placed_at-else-smooth.ensures,
       c.real_of-else-smooth.ensures,
-      c.Real-of.ensures,
+      c.real_of.ensures,
       c.if-smooth.false,
     )

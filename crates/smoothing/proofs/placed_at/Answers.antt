@@ -1,7 +1,6 @@
 -- `smoothing::placed_at` meets its contract: where the placement moves anything the code's operations are the definition's, else the vertex is as it was.
 -- Assumes nothing.
 use mathlib.Core.Path.{sym, ◌∙◌}
-use borrow.Author.Rules.{rules}
 use Rattle.scope.specs.Smoothing.{placed_at}
 use Rattle.smoothing.specs.Values.{placing_of, vertex_of}
 use Rattle.smoothing.proofs.placed_at.Goals as goal

@@ -1,7 +1,6 @@
 -- `smoothing::real_of` meets its contract: the code's product is the definition's, and 0.5 by its bits is the definition's half. Assumes nothing.
 use mathlib.Core.Path.{refl}
 use lib.Ieee.{of_bits}
-use borrow.Author.Rules.{rules}
 use Rattle.scope.specs.Smoothing.{whole, half, real_of}
 use Rattle.smoothing.proofs.real_of.Goals as goal
 

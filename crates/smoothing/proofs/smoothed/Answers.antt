@@ -1,6 +1,5 @@
 -- `smoothing::smoothed` meets its contract: both arms are the definition's. Assumes nothing.
 use mathlib.Core.Path.{sym, ◌∙◌}
-use borrow.Author.Rules.{rules}
 use Rattle.smoothing.proofs.smoothed.Goals as goal
 
 pub returns-then-moves : goal.returns-then-moves
@@ -9,9 +8,9 @@ returns-then-moves c =
       c.moved.ensures,
       c.sample_at-v1.ensures,
       c.sample_at-v0.ensures,
-      c.Real-of.ensures,
+      c.real_of-x.ensures,
       sym c.moves.ensures ∙ c.if-moves.true,
     )
 
 pub returns : goal.returns
-returns c = rw (c.Real-of.ensures, sym c.moves.ensures ∙ c.if-moves.false)
+returns c = rw (c.real_of-x.ensures, sym c.moves.ensures ∙ c.if-moves.false)

@@ -1,5 +1,4 @@
 -- `smoothing::vertex_moves` meets its contract: the samples are the definition's, and so is what each coordinate does. Assumes nothing.
-use borrow.Author.Rules.{rules}
 use Rattle.smoothing.specs.Coordinates.{vertex_moves}
 use Rattle.smoothing.proofs.vertex_moves.Goals as goal
 

@@ -1,24 +1,18 @@
--- `stitching::stitch` meets its contract. The loop's invariant: the run is the table machine's after the rows so far, the words of the next row's upper
--- samples are kept, and the tables keep their lengths. The measure is the number of rows left. Assumes nothing.
-use mathlib.Core.Path.{◌≡◌, ◌∙◌}
-use Prim.Native.Nat.{suc, ◌-◌, ◌≤◌}
+-- `stitching::stitch` meets its contract. The loop's invariant: the run is the table machine's after the rows so far, and the words of the next row's upper
+-- samples are kept. The measure is the number of rows left. Assumes nothing.
+use mathlib.Core.Path.{◌∙◌}
 use native.Mathlib.Numerals.{add-one}
 use native.Mathlib.Omega.{arith}
-use lib.ListN.{length}
-use borrow.Author.Rules.{rules}
 use Rattle.scope.specs.Limits.{side_limit}
-use Rattle.scope.specs.Terrain.{above_at, terrain}
-use Rattle.scan.specs.Rows.{Kept}
 use Rattle.scan.proofs.Samples.{terrain-outside}
 use Rattle.scan.proofs.Rows.{no-words-above}
-use Rattle.machine.specs.Machine.{run_after, run_over}
-use Rattle.drawing.specs.Values.{run_of}
+use Rattle.machine.specs.Machine.{run_over}
 use Rattle.stitching.proofs.Steps.{run-begins, next_row, run_ends, a-row-more-fits}
 use Rattle.stitching.proofs.stitch.Goals as goal
 
 pub loop-r-init : goal.loop-r-init
 unfolding run_over
-loop-r-init c = (omega arith, run-begins _ _ _, no-words-above _ (terrain-outside _ _ _ _), search rules, search rules)
+loop-r-init c = (omega arith, run-begins _ _ _, no-words-above _ (terrain-outside _ _ _ _))
 
 pub stitch_row-run-requires : goal.stitch_row-run-requires
 stitch_row-run-requires c =
@@ -34,10 +28,8 @@ loop-r-preserved c =
     let row = c.stitch_row-run.ensures in
     let so_far = c.loop-r.invariant in (
       omega arith,
-      rw add-one (row.0 ∙ rw so_far.1 (next_row _ _ _ _)),
-      rw add-one row.1,
-      c.stitch_row-run.auto.1.1.1.1.1.1.1.0 ∙ so_far.3,
-      c.stitch_row-run.auto.1.1.1.1.1.1.1.1.0 ∙ so_far.4,
+      rw add-one (row.result_after ∙ rw so_far.1 (next_row _ _ _ _)),
+      rw add-one row.kept_2,
     )
 
 pub returns : goal.returns

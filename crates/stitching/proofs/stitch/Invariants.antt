@@ -1,27 +1,17 @@
--- `stitching::stitch` meets its contract. The loop's invariant: the run is the table machine's after the rows so far, the words of the next row's upper
--- samples are kept, and the tables keep their lengths. The measure is the number of rows left. Assumes nothing.
-use mathlib.Core.Path.{◌≡◌, ◌∙◌}
+-- `stitching::stitch` meets its contract. The loop's invariant: the run is the table machine's after the rows so far, and the words of the next row's upper
+-- samples are kept. The measure is the number of rows left. Assumes nothing.
+use mathlib.Core.Path.{◌≡◌}
 use Prim.Native.Nat.{suc, ◌-◌, ◌≤◌}
-use native.Mathlib.Numerals.{add-one}
-use native.Mathlib.Omega.{arith}
-use lib.ListN.{length}
-use borrow.Author.Rules.{rules}
-use Rattle.scope.specs.Limits.{side_limit}
 use Rattle.scope.specs.Terrain.{above_at, terrain}
 use Rattle.scan.specs.Rows.{Kept}
-use Rattle.scan.proofs.Samples.{terrain-outside}
-use Rattle.scan.proofs.Rows.{no-words-above}
 use Rattle.machine.specs.Machine.{run_after, run_over}
 use Rattle.drawing.specs.Values.{run_of}
-use Rattle.stitching.proofs.Steps.{run-begins, next_row, run_ends, a-row-more-fits}
 use Rattle.stitching.proofs.stitch.Given as goal
 
 abbrev pub invariant-loop-r : goal.invariant-loop-r
 invariant-loop-r l = (l.r ≤ suc l.dy)
     × (run_of l.lines l.links l.run ≡ run_after (terrain (above_at l.level) l.values l.dx l.dy) l.dx (run_over l.initial.lines l.initial.links) l.r 0)
     × Kept (terrain (above_at l.level) l.values l.dx l.dy) l.r l.row
-    × (length l.lines ≡ length l.initial.lines)
-    × (length l.links ≡ length l.initial.links)
 
 abbrev pub decreases-loop-r : goal.decreases-loop-r
 decreases-loop-r l = suc l.dy - l.r

@@ -1,30 +1,25 @@
--- `stitching::stitch_row` meets its contract. The loop's invariant: the words of the row are walked so far, the run is that after the cells of these words,
--- and the tables keep their lengths. The measure is the number of words left. Assumes nothing.
-use mathlib.Core.Path.{◌≡◌, refl, sym, ◌∙◌, ap}
-use Prim.Native.Nat.{◌+◌, ◌*◌, ◌-◌, ◌≤◌, ◌<◌}
+-- `stitching::stitch_row` meets its contract. The loop's invariant: the words of the row are walked so far, and the run is that after the cells of these
+-- words. The measure is the number of words left. Assumes nothing.
+use mathlib.Core.Path.{refl}
 use native.Mathlib.Omega.{arith}
-use lib.ListN.{length}
-use borrow.Author.Rules.{rules}
 use Rattle.scope.specs.Limits.{side_limit}
-use Rattle.scope.specs.Terrain.{above_at, terrain}
 use Rattle.scan.proofs.Samples.{terrain-outside}
-use Rattle.scan.proofs.Rows.{Walked, walk_begins, walk-goes-on, walk-goes-over, walk_ends, pane-there, a-tile-has-a-mark}
-use Rattle.drawing.specs.Values.{run_of}
-use Rattle.stitching.specs.Rows.{row_drawn}
+use Rattle.scan.proofs.Rows.{walk_begins, walk-goes-on, walk-goes-over, walk_ends, pane-there, a-tile-has-a-mark}
 use Rattle.stitching.proofs.Steps.{row-begun, row-few, word_more, quiet-word-more, row-drawn}
 use Rattle.stitching.proofs.stitch_row.Goals as goal
 
 pub loop-w-init : goal.loop-w-init
 loop-w-init c =
-    (walk_begins _ _ (terrain-outside _ _ _ _) c.requires.kept, row-begun _ _ _ _, omega arith, search rules, search rules)
+    (walk_begins _ _ (terrain-outside _ _ _ _) c.requires.kept, row-begun _ _ _ _, omega arith)
 
 pub tile_of-requires : goal.tile_of-requires
 unfolding side_limit
 tile_of-requires c = (omega (arith, c.requires.sized.rows), omega arith)
 
 pub bounds-marks-tile_of : goal.bounds-marks-tile_of
+unfolding side_limit
 bounds-marks-tile_of c =
-    omega (arith, c.tile_of.ensures, a-tile-has-a-mark {r = c.args.r} {w = c.loop-w.w} (omega (arith, c.requires.sized.rows)) (tile-of-requires c _).1)
+    omega (arith, c.tile_of.ensures, a-tile-has-a-mark {r = c.args.r} {w = c.loop-w.w} (omega (arith, c.requires.sized.rows)) (omega arith))
 
 pub loop-w-smaller-then-marks-tile_of-eq0 : goal.loop-w-smaller-then-marks-tile_of-eq0
 unfolding side_limit
@@ -38,8 +33,6 @@ loop-w-preserved-then-marks-tile_of-eq0 c =
       walk-goes-over _ _ so_far.0 quiet,
       quiet-word-more _ _ _ _ _ so_far.1 quiet,
       omega arith,
-      so_far.3,
-      so_far.4,
     )
 
 pub bounds-row-w : goal.bounds-row-w
@@ -55,24 +48,24 @@ bounds-row-w-in-loop-w c = omega arith
 
 pub draw_changes-run-requires : goal.draw_changes-run-requires
 draw_changes-run-requires c =
-    let so_far = c.loop-w.invariant in record { sized = c.requires.sized; r_le_dy = c.requires.r_le_dy; shows = pane-there _ _ so_far.0 refl c.lower_word-lower_word.ensures c.pane_of-pane.ensures; changes_value = c.changes_in-changes.ensures; next_bound = omega (arith, c.requires.dx_bound, row-few _ _ _ _ _ so_far.1, element-write-row c) }
+    let so_far = c.loop-w.invariant in record { sized = c.requires.sized; r_le_dy = c.requires.r_le_dy; shows = pane-there _ _ so_far.0 refl c.lower_word-lower_word.ensures c.pane_of-pane.ensures; changes_value = c.changes_in-changes.ensures; next_bound = omega (arith, c.requires.dx_bound, row-few _ _ _ _ _ so_far.1) }
 
 pub overflow_add-w-in-loop-w : goal.overflow_add-w-in-loop-w
 overflow_add-w-in-loop-w c =
-    omega (arith, element-write-row c)
+    omega arith
 
 pub loop-w-smaller : goal.loop-w-smaller
+unfolding side_limit
 loop-w-smaller c =
-    omega (arith, element-write-row c)
+    omega arith
 
 pub loop-w-preserved : goal.loop-w-preserved
+unfolding side_limit
 loop-w-preserved c =
     let so_far = c.loop-w.invariant in (
-      walk-goes-on _ _ so_far.0 refl c.lower_word-lower_word.ensures (element-write-row c) c.bit_at-upper.ensures c.bit_at-lower.ensures,
+      walk-goes-on _ _ so_far.0 refl c.lower_word-lower_word.ensures (omega arith) c.bit_at-upper.ensures c.bit_at-lower.ensures,
       word_more _ _ _ _ _ so_far.1 c.draw_changes-run.ensures,
-      omega (arith, element-write-row c),
-      c.draw_changes-run.auto.1.1.1.1.1.1.1.1.0 ∙ so_far.3,
-      c.draw_changes-run.auto.1.1.1.1.1.1.1.1.1.0 ∙ so_far.4,
+      omega arith,
     )
 
 pub returns : goal.returns

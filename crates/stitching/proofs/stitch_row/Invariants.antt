@@ -1,25 +1,17 @@
--- `stitching::stitch_row` meets its contract. The loop's invariant: the words of the row are walked so far, the run is that after the cells of these words,
--- and the tables keep their lengths. The measure is the number of words left. Assumes nothing.
-use mathlib.Core.Path.{◌≡◌, refl, sym, ◌∙◌, ap}
-use Prim.Native.Nat.{◌+◌, ◌*◌, ◌-◌, ◌≤◌, ◌<◌}
-use native.Mathlib.Omega.{arith}
-use lib.ListN.{length}
-use borrow.Author.Rules.{rules}
-use Rattle.scope.specs.Limits.{side_limit}
+-- `stitching::stitch_row` meets its contract. The loop's invariant: the words of the row are walked so far, and the run is that after the cells of these
+-- words. The measure is the number of words left. Assumes nothing.
+use mathlib.Core.Path.{◌≡◌}
+use Prim.Native.Nat.{◌*◌, ◌-◌, ◌≤◌}
 use Rattle.scope.specs.Terrain.{above_at, terrain}
-use Rattle.scan.proofs.Samples.{terrain-outside}
-use Rattle.scan.proofs.Rows.{Walked, walk_begins, walk-goes-on, walk-goes-over, walk_ends, pane-there, a-tile-has-a-mark}
+use Rattle.scan.proofs.Rows.{Walked}
 use Rattle.drawing.specs.Values.{run_of}
 use Rattle.stitching.specs.Rows.{row_drawn}
-use Rattle.stitching.proofs.Steps.{row-begun, row-few, word_more, quiet-word-more, row-drawn}
 use Rattle.stitching.proofs.stitch_row.Given as goal
 
 abbrev pub invariant-loop-w : goal.invariant-loop-w
 invariant-loop-w l = Walked (terrain (above_at l.level) l.values l.dx l.dy) l.r l.w l.row l.upper l.lower
     × (run_of l.lines l.links l.run ≡ row_drawn (terrain (above_at l.level) l.values l.dx l.dy) l.dx (run_of l.initial.lines l.initial.links l.initial.run) l.r (64 * l.w))
     × (l.w ≤ 65)
-    × (length l.lines ≡ length l.initial.lines)
-    × (length l.links ≡ length l.initial.links)
 
 abbrev pub decreases-loop-w : goal.decreases-loop-w
 decreases-loop-w l = 65 - l.w

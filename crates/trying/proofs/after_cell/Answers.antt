@@ -1,5 +1,4 @@
 -- `trying::after_cell` meets its contract: both counts of the most are the larger ones. Assumes nothing.
-use borrow.Author.Rules.{rules}
 use Rattle.trying.proofs.after_cell.Goals as goal
 
 pub returns : goal.returns

@@ -1,5 +1,4 @@
 -- `trying::note` meets its contract: both words stored are the definition's. Assumes nothing.
-use borrow.Author.Rules.{rules}
 use Rattle.trying.specs.Notes.{noted}
 use Rattle.trying.proofs.note.Goals as goal
 

@@ -1,12 +1,9 @@
--- `trying::note_lines` meets its contract. The loop's invariant: the lines of the slots so far are noted, and the table keeps its length. The measure is how many
+-- `trying::note_lines` meets its contract. The loop's invariant: the lines of the slots so far are noted. The measure is how many
 -- are left. Assumes nothing.
-use mathlib.Core.Path.{◌≡◌, refl, sym, ◌∙◌, ap}
-use Prim.Native.Nat.{◌-◌, ◌≤◌}
+use mathlib.Core.Path.{◌≡◌, ◌∙◌}
 use native.Mathlib.Omega.{arith}
-use lib.ListN.{length}
-use borrow.Author.Rules.{rules}
 use Rattle.scope.specs.Limits.{side_limit}
-use Rattle.trying.specs.Notes.{slots_noted, frontier_noted}
+use Rattle.trying.specs.Notes.{frontier_noted}
 use Rattle.trying.proofs.Slots.{column-word-small, none-noted, line-noted}
 use Rattle.trying.proofs.note_lines.Goals as goal
 
@@ -15,7 +12,7 @@ unfolding side_limit
 overflow_add-dx c = omega arith
 
 pub loop-i-init : goal.loop-i-init
-loop-i-init c = (none-noted _ _ _, omega arith, refl)
+loop-i-init c = (none-noted _ _ _, omega arith)
 
 pub overflow_cast-start : goal.overflow_cast-start
 overflow_cast-start c = omega (arith, column-word-small _ _ c.requires c.column_word-start.ensures)
@@ -29,11 +26,7 @@ loop-i-preserved c =
       line-noted _ _ _ _ so_far.0 c.slot_at-line.ensures c.link_point.ensures c.column_word-start.ensures c.column_word-end.ensures
           c.note.ensures,
       omega arith,
-      c.note.auto.0 ∙ so_far.2,
     )
-
-pub shape_of-lines : goal.shape_of-lines
-shape_of-lines c = c.loop-i.invariant.2 ∙ c.clear.auto.0
 
 pub returns : goal.returns
 unfolding frontier_noted

@@ -1,6 +1,5 @@
 -- `trying::note_of` meets its contract: it is the definition. Assumes nothing.
 use mathlib.Core.Path.{refl}
-use borrow.Author.Rules.{rules}
 use Rattle.trying.specs.Notes.{note_of}
 use Rattle.trying.proofs.note_of.Goals as goal
 

@@ -1,6 +1,5 @@
 -- `trying::size_between` meets its contract: both halves are read, and each is below 2 ^ 15. Assumes nothing.
 use native.Mathlib.Omega.{arith}
-use borrow.Author.Rules.{rules}
 use Rattle.trying.specs.Notes.{size_between}
 use Rattle.trying.proofs.size_between.Goals as goal
 

@@ -1,6 +1,5 @@
 -- `trying::try_cell` meets its contract: each arm tries the strokes that the case table has for its numbers, and the numbers that are left have none. Assumes nothing.
 use native.Mathlib.Omega.{arith}
-use borrow.Author.Rules.{rules}
 use Rattle.scope.specs.Limits.{side_limit}
 use Rattle.trying.proofs.ByNumber.{one-tried, cross-tried, two-tried, zero-tried, past-tried}
 use Rattle.trying.proofs.try_cell.Goals as goal
@@ -19,12 +18,11 @@ returns-in-10 c =
 
 pub returns-in-1-to-14 : goal.returns-in-1-to-14
 returns-in-1-to-14 c =
-    let rest = c.in-5.rest in
-    one-tried _ _ _ _ (omega (arith, c.if-number-lt1.false)) (omega (arith, c.if-number-lt15.true)) rest.0.1 rest.1 c.first_stroke.ensures
+    one-tried _ _ _ _ (omega arith) (omega arith) (omega arith) (omega arith) c.first_stroke.ensures
     c.try_stroke-in-1-to-14.ensures c.after_cell-in-1-to-14.ensures
 
 pub returns-in_default : goal.returns-in_default
-returns-in_default c = zero-tried _ _ _ _ c.if-number-lt1.true
+returns-in_default c = zero-tried _ _ _ _ (omega arith)
 
 pub returns-in_default-2 : goal.returns-in_default-2
-returns-in_default-2 c = past-tried _ _ _ _ c.if-number-lt15.false
+returns-in_default-2 c = past-tried _ _ _ _ (omega arith)

@@ -1,22 +1,17 @@
--- `trying::try_changes` meets its contract. The loop's invariant: what is tried is what the cells that are seen come to, the bits of the others are left, and
--- the table keeps its length. The measure is how many are left. Assumes nothing.
-use mathlib.Core.Path.{◌≡◌, refl, ◌∙◌, subst}
-use Prim.Native.Nat.{◌-◌}
+-- `trying::try_changes` meets its contract. The loop's invariant: what is tried is what the cells that are seen come to, and the bits of the others are
+-- left. The measure is how many are left. Assumes nothing.
+use mathlib.Core.Path.{◌≡◌, ◌∙◌, subst}
 use native.Mathlib.Omega.{arith}
-use lib.ListN.{length}
 use Rattle.scope.specs.Limits.{side_limit}
 use Rattle.words.proofs.Laws.{number-shown}
 use Rattle.scan.proofs.Rows.{Unseen, unseen-begin, unseen-next}
-use Rattle.sweep.specs.Sweep.{between, swept}
 use Rattle.sweep.proofs.Steps.{word-begun, active-swept, word-swept}
-use Rattle.trying.specs.Trying.{cell_tried}
-use Rattle.trying.specs.Values.{tried_of}
 use Rattle.trying.proofs.ByNumber.{still, cell-of}
 use Rattle.trying.proofs.try_changes.Goals as goal
 
 pub loop-rest-init : goal.loop-rest-init
 loop-rest-init c =
-    (unseen-begin _ _ _ c.requires.shows c.requires.changes_value, word-begun _ _ _, refl)
+    (unseen-begin _ _ _ c.requires.shows c.requires.changes_value, word-begun _ _ _)
 
 pub overflow_add-j : goal.overflow_add-j
 overflow_add-j c = omega (arith, (unseen-next _ _ _ c.loop-rest.invariant.0 (λ z. omega arith)).in-word)
@@ -57,11 +52,7 @@ loop-rest-preserved c =
       next.unseen-then,
       active-swept _ _ _ (still _ _) _ next so_far.1
           (c.try_cell-next.ensures ∙ cell-of _ _ _ _ (c.number_in-number.ensures ∙ number-shown _ _ _ c.requires.shows next.in-word)),
-      c.try_cell-next.auto.0 ∙ so_far.2,
     )
-
-pub shape_of-words : goal.shape_of-words
-shape_of-words c = c.loop-rest.invariant.2
 
 pub returns : goal.returns
 returns c =

@@ -1,6 +1,5 @@
 -- `trying::try_cross` meets its contract: one line whose two tips are met, or two lines that are read before either is noted. Assumes nothing.
 use borrow.Author.Tests.{eq-eqb, ne_eqb}
-use borrow.Author.Rules.{rules}
 use Rattle.trying.proofs.try_cross.Goals as goal
 
 pub returns-then-start-v : goal.returns-then-start-v
@@ -11,7 +10,7 @@ returns-then-start-v c =
       c.note.ensures,
       c.size_between-size.ensures.0,
       ← c.word.ensures,
-      ← c.IsPlace-in.ensures,
+      ← c.place_in-start.ensures,
       eq-eqb _ _ c.if-start-v.true,
     )
 
@@ -27,6 +26,6 @@ returns c =
       ← c.word-2.ensures,
       ← c.place_in-end.ensures,
       ← c.word.ensures,
-      ← c.IsPlace-in.ensures,
+      ← c.place_in-start.ensures,
       ne_eqb _ _ c.if-start-v.false,
     )

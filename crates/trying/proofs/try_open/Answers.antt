@@ -1,5 +1,4 @@
 -- `trying::try_open` meets its contract: the line is noted, and both counts grow. Assumes nothing.
-use borrow.Author.Rules.{rules}
 use Rattle.trying.proofs.try_open.Goals as goal
 
 pub returns : goal.returns

@@ -1,20 +1,14 @@
--- `trying::try_row` meets its contract. The loop's invariant: what is tried is what the cells of the words so far come to, the samples on the left of the next
--- cell are known, and the table keeps its length. The measure is the number of words left. Assumes nothing.
-use mathlib.Core.Path.{◌≡◌, refl, ◌∙◌}
-use Prim.Native.Nat.{◌+◌, ◌*◌, ◌-◌, ◌≤◌}
+-- `trying::try_row` meets its contract. The loop's invariant: what is tried is what the cells of the words so far come to, and the samples on the left of the
+-- next cell are known. The measure is the number of words left. Assumes nothing.
 use native.Mathlib.Omega.{arith}
-use lib.ListN.{length}
-use borrow.Author.Rules.{rules}
 use Rattle.scope.specs.Limits.{side_limit}
-use Rattle.sweep.specs.Sweep.{between, swept}
-use Rattle.sweep.proofs.Rows.{Beside, beside-begins, beside-next, pane-between}
+use Rattle.sweep.proofs.Rows.{beside-begins, beside-next, pane-between}
 use Rattle.sweep.proofs.Steps.{row-begun, word_more, row-swept}
-use Rattle.trying.specs.Trying.{cell_tried, row_tried}
-use Rattle.trying.specs.Values.{tried_of}
+use Rattle.trying.specs.Trying.{row_tried}
 use Rattle.trying.proofs.try_row.Goals as goal
 
 pub loop-w-init : goal.loop-w-init
-loop-w-init c = (beside-begins _ _, row-begun _ _, omega arith, refl)
+loop-w-init c = (beside-begins _ _, row-begun _ _, omega arith)
 
 pub overflow_mul-w : goal.overflow_mul-w
 unfolding side_limit
@@ -39,8 +33,12 @@ overflow_cast-w c = omega arith
 pub try_changes-next-requires : goal.try_changes-next-requires
 try_changes-next-requires c =
     let upper-word = c.row_word-upper_word in
-    let lower_word = c.row_word-lower_word in record { dx_le_side_limit = (c.requires, omega arith); shows = pane-between _ _ c.loop-w.invariant.0 upper-word.ensures lower_word.ensures (omega (arith, upper-word.type-inv)) (omega (arith, lower_word.type-inv))
-            c.pane_of-pane.ensures; changes_value = c.changes_in-changes.ensures }
+    let lower_word = c.row_word-lower_word in record {
+      dx_le_side_limit = (c.requires, omega arith);
+      shows = pane-between _ _ c.loop-w.invariant.0 upper-word.ensures lower_word.ensures (omega arith) (omega arith)
+          c.pane_of-pane.ensures;
+      changes_value = c.changes_in-changes.ensures;
+    }
 
 pub overflow_add-w : goal.overflow_add-w
 unfolding side_limit
@@ -52,11 +50,7 @@ loop-w-preserved c =
       beside-next _ _ _ c.row_word-upper_word.ensures c.row_word-lower_word.ensures c.bit_at-upper_left.ensures c.bit_at-lower_left.ensures,
       word_more _ _ _ so_far.1 c.try_changes-next.ensures,
       omega arith,
-      c.try_changes-next.auto.1.1.1.1.1.1.0 ∙ so_far.3,
     )
-
-pub shape_of-words : goal.shape_of-words
-shape_of-words c = c.loop-w.invariant.3
 
 pub returns : goal.returns
 unfolding row_tried

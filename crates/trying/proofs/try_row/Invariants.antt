@@ -1,15 +1,10 @@
--- `trying::try_row` meets its contract. The loop's invariant: what is tried is what the cells of the words so far come to, the samples on the left of the next
--- cell are known, and the table keeps its length. The measure is the number of words left. Assumes nothing.
-use mathlib.Core.Path.{◌≡◌, refl, ◌∙◌}
+-- `trying::try_row` meets its contract. The loop's invariant: what is tried is what the cells of the words so far come to, and the samples on the left of the
+-- next cell are known. The measure is the number of words left. Assumes nothing.
+use mathlib.Core.Path.{◌≡◌}
 use Prim.Native.Nat.{◌+◌, ◌*◌, ◌-◌, ◌≤◌}
-use native.Mathlib.Omega.{arith}
-use lib.ListN.{length}
-use borrow.Author.Rules.{rules}
-use Rattle.scope.specs.Limits.{side_limit}
 use Rattle.sweep.specs.Sweep.{between, swept}
-use Rattle.sweep.proofs.Rows.{Beside, beside-begins, beside-next, pane-between}
-use Rattle.sweep.proofs.Steps.{row-begun, word_more, row-swept}
-use Rattle.trying.specs.Trying.{cell_tried, row_tried}
+use Rattle.sweep.proofs.Rows.{Beside}
+use Rattle.trying.specs.Trying.{cell_tried}
 use Rattle.trying.specs.Values.{tried_of}
 use Rattle.trying.proofs.try_row.Given as goal
 
@@ -17,7 +12,6 @@ abbrev pub invariant-loop-w : goal.invariant-loop-w
 invariant-loop-w l = Beside l.upper l.lower l.w l.upper_left l.lower_left
     × (tried_of l.words l.trial ≡ swept (cell_tried (between l.upper l.lower) l.dx) (tried_of l.initial.words l.initial.trial) 0 (64 * l.w))
     × (64 * l.w ≤ l.dx + 64)
-    × (length l.words ≡ length l.initial.words)
 
 abbrev pub decreases-loop-w : goal.decreases-loop-w
 decreases-loop-w l = l.dx + 64 - 64 * l.w

@@ -1,5 +1,4 @@
 -- `trying::try_start` meets its contract: the line's other word and its size are read, and the line is noted where it starts now. Assumes nothing.
-use borrow.Author.Rules.{rules}
 use Rattle.trying.proofs.try_start.Goals as goal
 
 pub returns : goal.returns
@@ -8,6 +7,6 @@ returns c =
       c.with_segment.ensures,
       c.note.ensures,
       c.size_between-size.ensures.0,
-      c.IsPlace-in.ensures,
+      c.place_in-end.ensures,
       c.word.ensures,
     )

@@ -1,6 +1,5 @@
 -- `trying::try_stroke` meets its contract: each way through the tests is the rule for two sides that are met or not. Assumes nothing.
 use native.Mathlib.Omega.{arith}
-use borrow.Author.Rules.{rules}
 use Rattle.drawing.specs.Values.{side_of}
 use Rattle.trying.proofs.BySides.{side-word-small, by-meeting, by-ending, by-starting, by-opening}
 use Rattle.trying.proofs.try_stroke.Goals as goal

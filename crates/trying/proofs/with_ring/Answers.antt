@@ -1,5 +1,4 @@
 -- `trying::with_ring` meets its contract: each count is the definition's. Assumes nothing.
-use borrow.Author.Rules.{rules}
 use Rattle.trying.proofs.with_ring.Goals as goal
 
 pub returns : goal.returns

@@ -1,5 +1,4 @@
 -- `trying::with_segment` meets its contract: one count grows. Assumes nothing.
-use borrow.Author.Rules.{rules}
 use Rattle.trying.proofs.with_segment.Goals as goal
 
 pub returns : goal.returns
