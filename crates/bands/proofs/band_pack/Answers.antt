@@ -34,4 +34,4 @@ unfolding band_directory_words directory_words record_stride
 returns c =
     let upper = c.write_behind.ensures in
     let lower = c.write_rings.ensures in
-    packs-done _ _ _ _ _ _ _ _ (omega (arith, c.if-points-band_point_words.false)) (omega (arith, c.if-directory-rings.false)) _ _ _ refl c.point_words-words.ensures refl _ _ _ c.stitch-again.ensures _ _ _ _ upper.0 upper.1 lower.0 lower.1
+    packs-done _ _ _ _ _ _ _ _ (omega (arith, c.if-points-band_point_words.false)) (omega (arith, c.if-directory-rings.false)) _ _ _ refl c.point_words-words.ensures refl _ _ _ c.stitch-again.ensures _ _ _ _ upper.points_after upper.directory_after lower.points_after lower.directory_after
