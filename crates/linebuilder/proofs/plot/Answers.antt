@@ -2,7 +2,6 @@
 use Rattle.scope.specs.Limits.{record_stride}
 use Rattle.isoringbuilder.proofs.Packing.{spared, stored}
 use Rattle.linebuilder.proofs.Laws.{line_records, as-plotted}
-use borrow.Author.Rules.{rules}
 use Rattle.linebuilder.proofs.plot.Goals as goal
 
 pub returns-in_default : goal.returns-in_default
