@@ -1,5 +1,5 @@
 -- Packing a band: each way out of it is what the verdict on the outputs says. Assumes nothing.
-use mathlib.Core.Path.{◌≡◌, refl, sym, ◌∙◌, ap, ap₂}
+use mathlib.Core.Path.{◌≡◌, sym, ◌∙◌, ap, ap₂}
 use mathlib.Core.List.{List, ◌++◌, append-nil}
 use Prim.Native.Nat.{ℕ, suc, ◌+◌, ◌-◌, ◌*◌, ◌≤◌, ◌<◌}
 use native.Mathlib.Omega.{arith}
@@ -17,7 +17,6 @@ use Rattle.lines.specs.Values.{tables_of}
 use Rattle.lines.specs.declared.Progress.{Progress}
 use Rattle.isoringbuilder.specs.Verdict.{Verdict, refused, passes}
 use Rattle.isoringbuilder.specs.Pass.{stitched_tables, pass_table, packed}
-use Rattle.isoringbuilder.specs.declared.Built.{Built}
 use Rattle.isoringbuilder.specs.declared.Built.TheVariants as built-is
 use Rattle.bands.specs.Bands.{band_room}
 use Rattle.bands.specs.Passing.{stored_from, BandPacked}

@@ -1,6 +1,5 @@
 -- A band's two passes: each way out of them is what the verdict says, and passes that were done leave the upper set's rings in the links. Assumes nothing.
-use mathlib.Core.Path.{◌≡◌, refl, sym, ◌∙◌, ap, ap₂}
-use mathlib.Core.Bool.{cond}
+use mathlib.Core.Path.{◌≡◌, sym, ◌∙◌, ap, ap₂}
 use mathlib.Core.List.{List}
 use Prim.Native.Nat.{ℕ, suc, max, ◌≤◌, ◌<◌}
 use native.Mathlib.Omega.{arith}
@@ -26,7 +25,6 @@ use Rattle.isoringbuilder.specs.Pass.{stitched_tables, pass_table}
 use Rattle.bands.specs.Bands.{band_verdict}
 use Rattle.bands.specs.Passing.{after_upper, band_drawing, band_passed, BandPassed}
 use Rattle.bands.specs.declared.BandDrawing.{BandDrawing}
-use Rattle.bands.specs.declared.BandPass.{BandPass}
 use Rattle.bands.specs.declared.BandPass.TheVariants as pass-is
 use Rattle.bands.proofs.Stitched.{StitchedOver, stitched-over}
 

@@ -1,8 +1,8 @@
 -- What is known after a band's passes, and the second report that follows from it: the counts of both sets, and both work tables zeroed. Assumes nothing.
-use mathlib.Core.Path.{◌≡◌, refl, sym, ◌∙◌, ap, ap₂, subst}
+use mathlib.Core.Path.{◌≡◌, refl, sym, ◌∙◌, ap, subst}
 use mathlib.Core.Bool.{Bool, true, false, cond}
 use mathlib.Core.List.{List}
-use Prim.Native.Nat.{ℕ, suc, max, ◌+◌, ◌^◌, ◌≤◌, ◌<◌}
+use Prim.Native.Nat.{ℕ, max, ◌+◌, ◌^◌, ◌≤◌, ◌<◌}
 use native.Mathlib.Omega.{arith}
 use lib.Dec.{ltb}
 use lib.Ieee.{Float}
@@ -12,9 +12,8 @@ use Rattle.error.specs.declared.Refusal.{Refusal}
 use Rattle.error.specs.declared.Refusal.TheVariants.{OpenShort, LinksShort}
 use Rattle.scope.specs.declared.Level.{Level}
 use Rattle.scope.specs.Terrain.{Sheet, above_at, terrain}
-use Rattle.scope.specs.Drawing.{segment_count, ring_count, peak}
+use Rattle.scope.specs.Drawing.{segment_count, peak}
 use Rattle.scope.specs.Room.{open_words, link_words, point_count, band_open_words, band_link_words}
-use Rattle.scope.specs.Tables.{zeroed}
 use Rattle.machine.specs.Machine.{Tables}
 use Rattle.packing.specs.Cleared.{cleared}
 use Rattle.packing.proofs.Laws.{cleared-is-zeroed}

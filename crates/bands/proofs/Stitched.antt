@@ -1,6 +1,6 @@
 -- What one stitching pass leaves over tables of any content that have room: tables as long as they were, with the words past the need as they were, and
 -- document 01's rings, to be read off by one walk. Assumes nothing.
-use mathlib.Core.Path.{◌≡◌, refl, sym, ◌∙◌, ap}
+use mathlib.Core.Path.{◌≡◌, sym, ◌∙◌, ap}
 use mathlib.Core.List.{List}
 use Prim.Native.Nat.{ℕ, suc, ◌+◌, ◌-◌, ◌^◌, ◌≤◌}
 use native.Mathlib.Omega.{arith}

@@ -9,7 +9,6 @@ use native.Mathlib.Omega.{arith}
 use lib.ListN.{get_or}
 use borrow.Author.Tests.{not-false}
 use Rattle.scope.specs.Cells.{Point}
-use Rattle.scope.specs.Area.{points}
 use Rattle.scope.specs.GeoJson.{first_at, count_at, words_in, ring_words_at, ring_at, unclosed}
 use Rattle.laws.proofs.Ends.{same-eq}
 use Rattle.extents.specs.Points.{point_in, ring_in}

@@ -2,7 +2,6 @@
 use Rattle.scan.specs.Report.{report_for}
 use Rattle.bands.specs.Bands.{band_first_report}
 use Rattle.bands.proofs.Fit.{paired, pair-refused}
-use borrow.Author.Rules.{rules}
 use Rattle.bands.proofs.band_first_report.Goals as goal
 
 pub room_of-requires : goal.room_of-requires

@@ -2,7 +2,6 @@
 use mathlib.Core.Path.{sym, ◌∙◌}
 use native.Mathlib.Omega.{arith}
 use Rattle.bands.proofs.Fit.{grid-refused, few, no-pair, pair}
-use borrow.Author.Rules.{rules}
 use Rattle.bands.proofs.band_fit.Goals as goal
 
 pub returns-then-thresholds-lt2 : goal.returns-then-thresholds-lt2

@@ -4,7 +4,6 @@ use Prim.Native.Nat.{suc, ◌+◌}
 use native.Mathlib.Omega.{arith}
 use Rattle.bands.specs.Bands.{fit_pair}
 use Rattle.bands.proofs.Fit.{fitting}
-use borrow.Author.Rules.{rules}
 use Rattle.bands.proofs.band_pair.Goals as goal
 
 pub offset_bounds-thresholds-k : goal.offset_bounds-thresholds-k

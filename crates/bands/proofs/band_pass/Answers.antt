@@ -5,7 +5,6 @@ use native.Mathlib.Omega.{arith}
 use Rattle.scan.specs.Scanned.{scanned}
 use Rattle.grid.proofs.Laws.{a-grid-that-fits-is-sized}
 use Rattle.bands.proofs.Passes.{open-need, link-need, lines-short, links-short, done}
-use borrow.Author.Rules.{rules}
 use Rattle.bands.proofs.band_pass.Goals as goal
 
 pub scan-below-requires : goal.scan-below-requires

@@ -2,7 +2,6 @@
 -- levels. Assumes nothing.
 use Rattle.bands.proofs.Fit.{paired, pair-refused}
 use Rattle.bands.proofs.Reports.{fit_refused}
-use borrow.Author.Rules.{rules}
 use Rattle.bands.proofs.band_second_report.Goals as goal
 
 pub report_over-requires : goal.report_over-requires

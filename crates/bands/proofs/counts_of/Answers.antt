@@ -1,7 +1,6 @@
 -- `bands::counts_of` meets its contract, which is the scan's. Assumes nothing.
 use mathlib.Core.Path.{refl}
 use Rattle.grid.proofs.Laws.{a-grid-that-fits-is-sized}
-use borrow.Author.Rules.{rules}
 use Rattle.bands.proofs.counts_of.Goals as goal
 
 pub scan-requires : goal.scan-requires

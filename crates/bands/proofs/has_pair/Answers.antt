@@ -4,7 +4,6 @@ use Prim.Native.Nat.{suc}
 use native.Mathlib.Omega.{arith}
 use borrow.Author.Tests.{le-ltb}
 use Rattle.bands.proofs.Fit.{pair_left}
-use borrow.Author.Rules.{rules}
 use Rattle.bands.proofs.has_pair.Goals as goal
 
 pub returns-then-thresholds-k : goal.returns-then-thresholds-k

@@ -4,7 +4,6 @@ use mathlib.Core.Path.{refl}
 use native.Mathlib.Omega.{arith}
 use Rattle.grid.proofs.Laws.{a-grid-that-fits-is-sized}
 use Rattle.bands.proofs.Reports.{band-done, report-refused, counts-fit, report-done}
-use borrow.Author.Rules.{rules}
 use Rattle.bands.proofs.report_over.Goals as goal
 
 pub band_pass-requires : goal.band_pass-requires

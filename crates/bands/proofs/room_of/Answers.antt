@@ -1,7 +1,6 @@
 -- `bands::room_of` meets its contract: the larger of both scans' counts are the definition's. Assumes nothing.
 use Rattle.scan.specs.Scanned.{scanned}
 use Rattle.bands.specs.Bands.{band_room_of}
-use borrow.Author.Rules.{rules}
 use Rattle.bands.proofs.room_of.Goals as goal
 
 pub returns : goal.returns

@@ -1,6 +1,5 @@
 -- `bands::write_behind` meets its contract: what is stored in the part of a table from a word on is stored from that word on. Assumes nothing.
 use Rattle.bands.proofs.Packs.{stored-part}
-use borrow.Author.Rules.{rules}
 use Rattle.bands.proofs.write_behind.Goals as goal
 
 pub returns : goal.returns

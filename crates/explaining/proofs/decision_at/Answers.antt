@@ -1,5 +1,4 @@
 -- `explaining::decision_at` meets its contract: both records' rings are there, and the outer one is closed. Assumes nothing.
-use borrow.Author.Rules.{rules}
 use Rattle.explaining.proofs.Rings.{ring-lies, ring-closes, ring-is}
 use Rattle.explaining.proofs.decision_at.Goals as goal
 

@@ -1,5 +1,4 @@
 -- `explaining::holds` meets its contract: each arm is the definition's. Assumes nothing.
-use borrow.Author.Rules.{rules}
 use Rattle.scope.specs.Containment.{not_outside}
 use Rattle.deciding.specs.Decisions.{answer_in}
 use Rattle.explaining.proofs.holds.Goals as goal

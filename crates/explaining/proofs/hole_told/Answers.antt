@@ -2,16 +2,12 @@
 -- are left. Assumes nothing.
 use mathlib.Core.Path.{◌≡◌, sym, ap, ◌∙◌}
 use mathlib.Core.Bool.{Bool}
-use Prim.Native.Nat.{ℕ, ◌-◌}
-use borrow.Author.Rules.{rules}
 use Rattle.scope.specs.Stitching.{Line}
 use Rattle.scope.specs.Containment.{not_outside}
 use Rattle.scope.specs.Contour.{takes}
-use Rattle.scope.specs.GeoJson.{ring_at}
 use Rattle.deciding.specs.Decisions.{answer_in, decision_of}
 use Rattle.deciding.specs.declared.Decision.{Decision}
-use Rattle.explaining.specs.Fates.{is_polygon_by}
-use Rattle.explaining.proofs.Owners.{Sought, sought-begin, not-a-polygon, not-the-owner, the-owner, no-owner, taken-by}
+use Rattle.explaining.proofs.Owners.{sought-begin, not-a-polygon, not-the-owner, the-owner, no-owner, taken-by}
 use Rattle.explaining.proofs.hole_told.Goals as goal
 
 -- whether a ring takes another, by what its vertices come to

@@ -1,5 +1,4 @@
 -- `explaining::midway` meets its contract: the tests are the definition's. Assumes nothing.
-use borrow.Author.Rules.{rules}
 use Rattle.explaining.specs.Vertices.{midway_in_row, midway_in_column, midway}
 use Rattle.explaining.proofs.midway.Goals as goal
 

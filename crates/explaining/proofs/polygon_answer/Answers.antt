@@ -1,9 +1,6 @@
 -- `explaining::polygon_answer` meets its contract: each test is the definition's. Assumes nothing.
-use mathlib.Core.Path.{◌≡◌, sym, ◌∙◌}
-use mathlib.Core.Bool.{false}
-use borrow.Author.Rules.{rules}
+use mathlib.Core.Path.{sym, ◌∙◌}
 use borrow.Author.Tests.{lt-ltb, le-ltb}
-use Rattle.scope.specs.GeoJson.{ring_set_refused}
 use Rattle.explaining.specs.Fates.{polygon_answer}
 use Rattle.explaining.proofs.polygon_answer.Goals as goal
 

@@ -1,9 +1,6 @@
 -- `explaining::ring_fate` meets its contract: each test is the definition's, and what an answer shows follows from it. Assumes nothing.
-use mathlib.Core.Path.{◌≡◌, sym, ◌∙◌}
-use mathlib.Core.Bool.{false}
-use borrow.Author.Rules.{rules}
+use mathlib.Core.Path.{sym, ◌∙◌}
 use borrow.Author.Tests.{lt-ltb, le-ltb}
-use Rattle.scope.specs.GeoJson.{ring_set_refused}
 use Rattle.explaining.specs.Fates.{fate_answer}
 use Rattle.explaining.proofs.Owners.{fate-of, fate-found}
 use Rattle.explaining.proofs.ring_fate.Goals as goal

@@ -1,11 +1,7 @@
 -- `explaining::smoothed_vertex` meets its contract: numbers 1 and 2 are the fit's, number 9 the check's, and behind them the vertex is told. Assumes nothing.
-use mathlib.Core.Path.{◌≡◌, sym, ◌∙◌}
+use mathlib.Core.Path.{sym, ◌∙◌}
 use native.Mathlib.Omega.{arith}
-use lib.ListN.{length}
-use borrow.Author.Rules.{rules}
 use Rattle.scope.specs.Limits.{side_limit}
-use Rattle.grid.specs.Grid.{grid_fit}
-use Rattle.grid.specs.declared.GridFit.TheVariants as fit_is
 use Rattle.grid.proofs.Laws.{a-grid-that-fits-is-sized}
 use Rattle.explaining.specs.Vertices.{on_grid, vertex_answer}
 use Rattle.explaining.proofs.smoothed_vertex.Goals as goal

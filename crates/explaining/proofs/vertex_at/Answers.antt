@@ -2,7 +2,6 @@
 use mathlib.Core.Path.{sym, ap, ◌∙◌}
 use native.Mathlib.Omega.{arith}
 use lib.ListN.{get_or}
-use borrow.Author.Rules.{rules}
 use Rattle.scope.specs.Stitching.{Line}
 use Rattle.extents.specs.Points.{point_in}
 use Rattle.explaining.specs.Vertices.{vertex_of_ring}

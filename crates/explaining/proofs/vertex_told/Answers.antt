@@ -1,10 +1,7 @@
 -- `explaining::vertex_told` meets its contract: each test is the definition's. Assumes nothing.
-use mathlib.Core.Path.{◌≡◌, sym, ap, ◌∙◌}
-use Prim.Native.Nat.{◌<◌}
-use borrow.Author.Rules.{rules}
+use mathlib.Core.Path.{sym, ap, ◌∙◌}
 use borrow.Author.Tests.{lt-ltb, le-ltb}
-use Rattle.scope.specs.GeoJson.{count_at}
-use Rattle.explaining.specs.Vertices.{midway, vertex_of_ring, vertex_there, vertex_told}
+use Rattle.explaining.specs.Vertices.{midway, vertex_there, vertex_told}
 use Rattle.explaining.proofs.vertex_told.Goals as goal
 
 pub returns-then-rings-ring : goal.returns-then-rings-ring

@@ -1,6 +1,5 @@
 -- `geojson::geojson_length` meets its contract: the set is refused, or its text has a length. Assumes nothing.
 use mathlib.Core.Path.{sym, ◌∙◌}
-use borrow.Author.Rules.{rules}
 use Rattle.geojson.proofs.Cases.{no_length, a-length}
 use Rattle.geojson.proofs.geojson_length.Goals as goal
 

@@ -4,7 +4,6 @@ use native.Mathlib.Omega.{arith}
 use Rattle.isoringbuilder.proofs.Limits.{columns-fit, rows_fit}
 use Rattle.isoringbuilder.proofs.Laws.{done-facts}
 use Rattle.linebuilder.proofs.Laws.{lines-refused, lines-done}
-use borrow.Author.Rules.{rules}
 use Rattle.linebuilder.proofs.contour_lines.Goals as goal
 
 pub overflow_cast-dx : goal.overflow_cast-dx

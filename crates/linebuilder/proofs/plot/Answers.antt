@@ -2,7 +2,6 @@
 use Rattle.scope.specs.Limits.{record_stride}
 use Rattle.isoringbuilder.proofs.Packing.{spared, stored}
 use Rattle.linebuilder.proofs.Laws.{line_records, as-plotted}
-use borrow.Author.Rules.{rules}
 use Rattle.linebuilder.proofs.plot.Goals as goal
 
 pub returns-in_default : goal.returns-in_default
@@ -13,4 +12,4 @@ pub returns : goal.returns
 unfolding record_stride
 returns c =
     let walked = c.write_lines.ensures in
-    rw (walked.0, walked.1) (as-plotted (stored _ (line_records _) _ _ _ _ _ c.answer_for-answer.ensures _ c.in-Rings.is))
+    rw (walked.points_after, walked.directory_after) (as-plotted (stored _ (line_records _) _ _ _ _ _ c.answer_for-answer.ensures _ c.in-Rings.is))

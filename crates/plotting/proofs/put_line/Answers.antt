@@ -3,7 +3,6 @@ use mathlib.Core.Path.{sym, ◌∙◌, ap}
 use mathlib.Core.List.{List, [], ◌∷◌}
 use Prim.Native.Nat.{ℕ, ◌/◌, ◌%◌, ◌+◌, ◌^◌}
 use lib.Seq.{sets}
-use borrow.Author.Rules.{rules}
 use Rattle.machine.specs.Walk.{record_words}
 use Rattle.packing.proofs.Laws.{stores-follow}
 use Rattle.plotting.proofs.put_line.Goals as goal

@@ -1,7 +1,6 @@
 -- `plotting::put_real` meets its contract: past the end a list stores nothing. Assumes nothing.
 use mathlib.Core.Path.{sym}
 use lib.Seq.{set_out}
-use borrow.Author.Rules.{rules}
 use Rattle.plotting.proofs.put_real.Goals as goal
 
 pub returns-else-i-points : goal.returns-else-i-points

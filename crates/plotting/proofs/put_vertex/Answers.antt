@@ -2,7 +2,6 @@
 use mathlib.Core.Path.{sym}
 use mathlib.Core.List.{[], ◌∷◌}
 use native.Mathlib.Numerals.{add-one}
-use borrow.Author.Rules.{rules}
 use Rattle.scope.specs.Smoothing.{line_vertex}
 use Rattle.scope.specs.Tables.{vertex_words}
 use Rattle.packing.proofs.Laws.{stores-past-the-end}

@@ -1,5 +1,4 @@
 -- `plotting::start_of` meets its contract: the point at the link's index. Assumes nothing.
-use borrow.Author.Rules.{rules}
 use Rattle.machine.specs.Machine.{link_point}
 use Rattle.machine.specs.Walk.{start_point}
 use Rattle.plotting.proofs.start_of.Goals as goal

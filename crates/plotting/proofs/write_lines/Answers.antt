@@ -1,21 +1,14 @@
 -- `plotting::write_lines` meets its contract. The loop's invariant is `PointsLeft` with `RecordsLeft`: storing the points and the records of the links not yet
 -- walked leaves what is asked, the number is the ring's area so far, and the point is where the link starts. The measure is the number of links not yet walked.
 -- Assumes nothing.
-use mathlib.Core.Path.{◌≡◌, refl, ◌∙◌, ap}
-use mathlib.Core.List.{List}
-use Prim.Native.Nat.{ℕ, ◌^◌, ◌<◌}
+use mathlib.Core.Path.{refl, ◌∙◌, ap}
 use native.Mathlib.Omega.{arith}
-use lib.Ieee.{Float}
-use lib.IntN.{ℤ, pos}
+use lib.IntN.{pos}
 use lib.Seq.{sets}
-use borrow.Author.Rules.{rules}
 use Rattle.scope.specs.Area.{twos_complement}
 use Rattle.machine.specs.Machine.{mark}
-use Rattle.machine.specs.Walk.{start_point, measured_words}
-use Rattle.packing.proofs.Walks.{PointsLeft, points-begin, points-next, points-closed, points-end}
-use Rattle.packing.proofs.Walks.{RecordsLeft, records-begin, records-next, records-closed, records-end, stored-room}
-use Rattle.smoothing.specs.Values.{placing_of}
-use Rattle.plotting.specs.Plot.{point_of, vertex_at}
+use Rattle.packing.proofs.Walks.{points-begin, points-next, points-closed, points-end}
+use Rattle.packing.proofs.Walks.{records-begin, records-next, records-closed, records-end, stored-room}
 use Rattle.plotting.proofs.Laws.{vertex-has-two-words, vertex-of-link, stepped-along, line-words, six-words}
 use Rattle.plotting.proofs.write_lines.Goals as goal
 
@@ -63,4 +56,7 @@ pub shape_of-directory : goal.shape_of-directory
 shape_of-directory c = stored-room c.loop-left.invariant.2.2.so_far
 
 pub returns : goal.returns
-returns c = (points-end c.loop-left.invariant.1 c.loop-left-test.false, records-end c.loop-left.invariant.2.2 c.loop-left-test.false)
+returns c = record {
+  points_after = points-end c.loop-left.invariant.1 c.loop-left-test.false;
+  directory_after = records-end c.loop-left.invariant.2.2 c.loop-left-test.false;
+}

@@ -1,22 +1,15 @@
 -- `plotting::write_lines` meets its contract. The loop's invariant is `PointsLeft` with `RecordsLeft`: storing the points and the records of the links not yet
 -- walked leaves what is asked, the number is the ring's area so far, and the point is where the link starts. The measure is the number of links not yet walked.
 -- Assumes nothing.
-use mathlib.Core.Path.{◌≡◌, refl, ◌∙◌, ap}
-use mathlib.Core.List.{List}
-use Prim.Native.Nat.{ℕ, ◌^◌, ◌<◌}
-use native.Mathlib.Omega.{arith}
-use lib.Ieee.{Float}
-use lib.IntN.{ℤ, pos}
-use lib.Seq.{sets}
-use borrow.Author.Rules.{rules}
+use mathlib.Core.Path.{◌≡◌}
+use Prim.Native.Nat.{◌^◌, ◌<◌}
+use lib.IntN.{ℤ}
 use Rattle.scope.specs.Area.{twos_complement}
-use Rattle.machine.specs.Machine.{mark}
 use Rattle.machine.specs.Walk.{start_point, measured_words}
-use Rattle.packing.proofs.Walks.{PointsLeft, points-begin, points-next, points-closed, points-end}
-use Rattle.packing.proofs.Walks.{RecordsLeft, records-begin, records-next, records-closed, records-end, stored-room}
+use Rattle.packing.proofs.Walks.{PointsLeft}
+use Rattle.packing.proofs.Walks.{RecordsLeft}
 use Rattle.smoothing.specs.Values.{placing_of}
 use Rattle.plotting.specs.Plot.{point_of, vertex_at}
-use Rattle.plotting.proofs.Laws.{vertex-has-two-words, vertex-of-link, stepped-along, line-words, six-words}
 use Rattle.plotting.proofs.write_lines.Given as goal
 
 abbrev pub invariant-loop-left : goal.invariant-loop-left

@@ -1,6 +1,5 @@
 -- `telling::tell_answer` meets its contract: each arm is the definition's. Assumes nothing.
 use mathlib.Core.Path.{refl}
-use borrow.Author.Rules.{rules}
 use Rattle.scope.specs.Containment.{answer_number}
 use Rattle.deciding.specs.Decisions.{answer_in}
 use Rattle.telling.specs.Outputs.{answer_status, answer_output, answer_vertex}
@@ -9,18 +8,18 @@ use Rattle.telling.proofs.tell_answer.Goals as goal
 pub returns-in-Inside : goal.returns-in-Inside
 unfolding answer_status answer_output answer_vertex answer_in answer_number
 returns-in-Inside c =
-    rw c.in-Decided.is (refl, (rw c.in-Inside.is refl, c.vertex_word.ensures))
+    rw c.in-Decided.is (record { value = refl; answer_after = rw c.in-Inside.is refl; vertex_after = c.vertex_word.ensures })
 
 pub returns-in-Outside : goal.returns-in-Outside
 unfolding answer_status answer_output answer_vertex answer_in answer_number
 returns-in-Outside c =
-    rw c.in-Decided.is (refl, (rw c.in-Outside.is refl, c.vertex_word.ensures))
+    rw c.in-Decided.is (record { value = refl; answer_after = rw c.in-Outside.is refl; vertex_after = c.vertex_word.ensures })
 
 pub returns-in-Undecided : goal.returns-in-Undecided
 unfolding answer_status answer_output answer_vertex answer_in answer_number
 returns-in-Undecided c =
-    rw c.in-Decided.is (refl, (rw c.in-Undecided.is refl, c.vertex_word.ensures))
+    rw c.in-Decided.is (record { value = refl; answer_after = rw c.in-Undecided.is refl; vertex_after = c.vertex_word.ensures })
 
 pub returns-in-Refused : goal.returns-in-Refused
 unfolding answer_status answer_output answer_vertex
-returns-in-Refused c = rw c.in-Refused.is (c.number.ensures, (refl, refl))
+returns-in-Refused c = rw c.in-Refused.is (record { value = c.number.ensures; answer_after = refl; vertex_after = refl })

@@ -1,5 +1,4 @@
 -- `telling::vertex_word` meets its contract: each arm is the definition's. Assumes nothing.
-use borrow.Author.Rules.{rules}
 use Rattle.telling.specs.Outputs.{no_vertex, vertex_word}
 use Rattle.telling.proofs.vertex_word.Goals as goal
 
