@@ -2,7 +2,7 @@
 -- Assumes nothing.
 use mathlib.Core.Path.{◌≡◌, refl, sym, ap, subst, ◌∙◌}
 use mathlib.Core.Bool.{Bool, true, false, not, beq, ◌||◌, ◌&&◌}
-use Prim.Native.Nat.{ℕ, ◌*◌, ◌%◌, ◌<◌, ◌≤◌}
+use Prim.Native.Nat.{ℕ, ◌*◌, ◌%◌, ◌<◌}
 use lib.Dec.{T, eqb}
 use lib.Ieee.{Float, nan, inf, fin, up, down, binary64, ones, hid, top, eq, is_nan, of_bits, to_bits}
 use lib.Ieee.Bits.{nan_bits_is, nan_bits_above}

@@ -1,5 +1,4 @@
 -- `rowstate::bits_of` meets its contract: a float that equals itself is a number, and one that does not is none. Assumes nothing.
-use borrow.Author.Rules.{rules}
 use Rattle.rowstate.proofs.Floats.{equal-to-itself, bits-of-none}
 use Rattle.rowstate.proofs.bits_of.Goals as goal
 

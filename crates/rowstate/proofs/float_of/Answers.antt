@@ -5,7 +5,6 @@ use mathlib.Core.Path.{sym, subst, ◌∙◌}
 use lib.Dec.{T}
 use lib.Ieee.{binary64, ones, hid, top, div, of_bits}
 use lib.Ieee.Bits.{nan_bits_above}
-use borrow.Author.Rules.{rules}
 use borrow.Author.Tests.{le-ltb}
 use Rattle.rowstate.proofs.Floats.{float-of-none}
 use Rattle.rowstate.proofs.float_of.Goals as goal

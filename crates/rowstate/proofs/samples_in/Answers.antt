@@ -1,12 +1,8 @@
 -- `rowstate::samples_in` meets its contract. The loop's invariant is that the samples left, over those so far, are all; the measure is how many words are left.
 -- Assumes nothing.
-use mathlib.Core.Path.{◌≡◌, sym, ◌∙◌}
-use Prim.Native.Nat.{◌-◌, ◌≤◌}
+use mathlib.Core.Path.{sym, ◌∙◌}
 use native.Mathlib.Omega.{arith}
-use lib.Seq.{sets}
-use Rattle.rowstate.specs.Words.{samples_from, samples_in}
 use Rattle.rowstate.proofs.Walks.{samples-in-a-row, none_read, sample-read, all_read}
-use borrow.Author.Rules.{rules}
 use Rattle.rowstate.proofs.samples_in.Goals as goal
 
 pub loop-w-init : goal.loop-w-init

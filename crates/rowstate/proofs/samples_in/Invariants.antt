@@ -1,12 +1,9 @@
 -- `rowstate::samples_in` meets its contract. The loop's invariant is that the samples left, over those so far, are all; the measure is how many words are left.
 -- Assumes nothing.
-use mathlib.Core.Path.{◌≡◌, sym, ◌∙◌}
+use mathlib.Core.Path.{◌≡◌}
 use Prim.Native.Nat.{◌-◌, ◌≤◌}
-use native.Mathlib.Omega.{arith}
 use lib.Seq.{sets}
 use Rattle.rowstate.specs.Words.{samples_from, samples_in}
-use Rattle.rowstate.proofs.Walks.{samples-in-a-row, none_read, sample-read, all_read}
-use borrow.Author.Rules.{rules}
 use Rattle.rowstate.proofs.samples_in.Given as goal
 
 abbrev pub invariant-loop-w : goal.invariant-loop-w

@@ -1,6 +1,5 @@
 -- `rowstate::state_of` meets its contract: each number stands in its word. Assumes nothing.
 use Rattle.rowstate.proofs.States.{state-read}
-use borrow.Author.Rules.{rules}
 use Rattle.rowstate.proofs.state_of.Goals as goal
 
 pub returns : goal.returns

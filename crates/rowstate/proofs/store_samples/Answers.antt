@@ -1,12 +1,8 @@
 -- `rowstate::store_samples` meets its contract. The loop's invariant is that the halves left, over the words so far, are all; the measure is how many words of
 -- samples are left. Assumes nothing.
-use mathlib.Core.Path.{◌≡◌, sym, ◌∙◌}
-use Prim.Native.Nat.{◌+◌, ◌-◌, ◌*◌, ◌≤◌}
+use mathlib.Core.Path.{sym, ◌∙◌}
 use native.Mathlib.Omega.{arith}
-use lib.Seq.{sets}
-use Rattle.rowstate.specs.Words.{halves_from, samples_out}
 use Rattle.rowstate.proofs.Walks.{samples-in-a-row, none-stored, sample-stored, all-stored}
-use borrow.Author.Rules.{rules}
 use Rattle.rowstate.proofs.store_samples.Goals as goal
 
 pub loop-w-init : goal.loop-w-init

@@ -1,6 +1,5 @@
 -- `rowstate::store_state` meets its contract: each number goes to its word. Assumes nothing.
 use Rattle.rowstate.proofs.States.{state-stored}
-use borrow.Author.Rules.{rules}
 use Rattle.rowstate.proofs.store_state.Goals as goal
 
 pub returns : goal.returns
