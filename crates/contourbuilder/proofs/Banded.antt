@@ -2,7 +2,7 @@
 use mathlib.Core.Path.{◌≡◌, refl, sym, ◌∙◌, ap, ap₂, subst}
 use mathlib.Core.Bool.{true}
 use mathlib.Core.List.{List, [], ◌∷◌, ◌++◌, append_assoc}
-use Prim.Native.Nat.{ℕ, suc, max, ◌+◌, ◌-◌, ◌*◌, ◌^◌, ◌≤◌, ◌<◌}
+use Prim.Native.Nat.{ℕ, max, ◌+◌, ◌-◌, ◌*◌, ◌≤◌, ◌<◌}
 use native.Mathlib.Decide.{dec_lt}
 use native.Mathlib.Omega.{arith}
 use lib.Ieee.{Float}
@@ -18,7 +18,7 @@ use Rattle.scope.specs.Drawing.{segment_count, ring_count, rings_of, peak}
 use Rattle.scope.specs.Room.{open_words, link_words, point_words, directory_words, band_open_words, band_link_words, band_point_words, band_directory_words}
 use Rattle.scope.specs.Tables.{written, packed_points, short_of, record_of, bare_by, band_points, band_records}
 use Rattle.scope.specs.Band.{band_order}
-use Rattle.laws.proofs.Total.{total, total-append}
+use Rattle.laws.proofs.Total.{total-append}
 use Rattle.laws.proofs.Conservation.{Each}
 use Rattle.machine.specs.Machine.{Tables}
 use Rattle.machine.specs.Walk.{walk_points, walk_records}

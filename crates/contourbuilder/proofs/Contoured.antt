@@ -13,7 +13,7 @@ use Rattle.scope.specs.declared.Level.{Level}
 use Rattle.error.specs.declared.Refusal.TheVariants.{PointsShort, DirectoryShort}
 use Rattle.scope.specs.Terrain.{Sheet, above_at, terrain}
 use Rattle.scope.specs.Stitching.{Line}
-use Rattle.scope.specs.Drawing.{segment_count, ring_count, rings_of, peak}
+use Rattle.scope.specs.Drawing.{segment_count, ring_count, rings_of}
 use Rattle.scope.specs.Room.{open_words, link_words, point_words, directory_words}
 use Rattle.scope.specs.Tables.{written, packed_points, short_of, bare_by, contour_records}
 use Rattle.machine.proofs.Built.{links-kept, packed-points-fill-their-room, short-records-length}
@@ -21,7 +21,7 @@ use Rattle.packing.specs.Cleared.{cleared}
 use Rattle.extents.specs.Records.{record_count}
 use Rattle.regions.specs.Regions.{contour_by}
 use Rattle.spreading.proofs.Laws.{written_over}
-use Rattle.isoringbuilder.specs.Verdict.{Verdict, refused, passes, work_verdict, room_verdict, output_verdict}
+use Rattle.isoringbuilder.specs.Verdict.{Verdict, refused, passes, room_verdict, output_verdict}
 use Rattle.isoringbuilder.specs.Answers.{output_after, built}
 use Rattle.isoringbuilder.specs.Pass.{stitched_tables, Passed, Packed}
 use Rattle.isoringbuilder.specs.declared.Pass.{Pass}

@@ -15,10 +15,10 @@ use Rattle.scope.specs.Tables.{ring_words, packed_points, first_point}
 use Rattle.laws.proofs.Sums.{sum-last}
 use Rattle.laws.proofs.Total.{total}
 use Rattle.laws.proofs.Conservation.{Each}
-use Rattle.laws.proofs.Rings.{Chain, Within, RingLaw}
-use Rattle.extents.specs.Points.{point_in, ring_in, Stepping, RingThere}
+use Rattle.laws.proofs.Rings.{Chain}
+use Rattle.extents.specs.Points.{point_in, ring_in, Stepping}
 use Rattle.extents.specs.Records.{record_count}
-use Rattle.noting.specs.Noted.{start_of, counted_ring, Countable}
+use Rattle.noting.specs.Noted.{start_of, counted_ring}
 use Rattle.regions.specs.Regions.{counted_rings, Workable}
 
 -- a point whose words stand behind 2k others is the point of number k

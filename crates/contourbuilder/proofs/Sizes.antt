@@ -1,8 +1,8 @@
 -- The rings of a grid that fits are such as a search for owners asks, they are few enough for the link table's needed words to be worked in, and a directory
 -- of bare records has their counts. Assumes nothing.
-use mathlib.Core.Path.{◌≡◌, refl, sym, ◌∙◌, ap}
+use mathlib.Core.Path.{◌≡◌, refl, ◌∙◌, ap}
 use mathlib.Core.List.{List, [], ◌∷◌, ◌++◌}
-use Prim.Native.Nat.{ℕ, zero, suc, ◌+◌, ◌*◌, ◌^◌, ◌≤◌, ◌<◌}
+use Prim.Native.Nat.{ℕ, zero, suc, ◌+◌, ◌*◌, ◌≤◌, ◌<◌}
 use native.Mathlib.Nat.{le_of_suc-le-suc, not-suc-le-zero}
 use native.Mathlib.Omega.{arith}
 use lib.Ieee.{Float}
@@ -10,7 +10,6 @@ use lib.ListN.{length, get_or}
 use Rattle.scope.specs.declared.Level.{Level}
 use Rattle.scope.specs.Limits.{side_limit, coordinate_limit, point_limit}
 use Rattle.scope.specs.Terrain.{Sheet, above_at, terrain}
-use Rattle.scope.specs.Cells.{Point}
 use Rattle.scope.specs.Stitching.{Line}
 use Rattle.scope.specs.Drawing.{segments_of, segment_count, rings_of, ring_count}
 use Rattle.scope.specs.Tables.{short_of, bare_by}

@@ -7,7 +7,7 @@ use Prim.Native.Nat.{ℕ, ◌+◌, ◌*◌, ◌<◌, ◌≤◌}
 use native.Mathlib.Omega.{arith}
 use lib.ListN.{length, get_or}
 use Rattle.scope.specs.Stitching.{Line}
-use Rattle.scope.specs.Area.{points, area}
+use Rattle.scope.specs.Area.{area}
 use Rattle.scope.specs.Contour.{Fate, contour_fates}
 use Rattle.scope.specs.Band.{Numbered, numbered_from, sorted, sort_key, order_rings, band_fates}
 use Rattle.scope.specs.GeoJson.{words_in}

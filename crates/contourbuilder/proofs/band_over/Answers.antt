@@ -1,11 +1,10 @@
 -- `contourbuilder::band_over` meets its contract: refused passes have changed nothing, and after passes that were done the outputs are what packing leaves, with
 -- the owners found, and both work tables are cleared. Assumes nothing.
-use mathlib.Core.Path.{refl, ◌∙◌}
+use mathlib.Core.Path.{refl}
 use native.Mathlib.Omega.{arith}
 use Rattle.grid.proofs.Laws.{a-grid-that-fits-is-sized}
 use Rattle.bands.proofs.Reports.{band-done, counts-fit}
 use Rattle.contourbuilder.proofs.Banded.{isobands-refused, band-ownable, isobands-done}
-use borrow.Author.Rules.{rules}
 use Rattle.contourbuilder.proofs.band_over.Goals as goal
 
 pub band_pass-requires : goal.band_pass-requires
@@ -29,14 +28,6 @@ open_words-requires c =
 pub returns-in-Refused : goal.returns-in-Refused
 returns-in-Refused c =
     isobands-refused _ _ _ _ _ _ _ _ _ c.in-Refused.is _ _ _ c.band_pass.ensures _ _
-
-pub shape_of-lines-in-Done : goal.shape_of-lines-in-Done
-shape_of-lines-in-Done c =
-    c.clear.auto.0 ∙ c.band_pack-answer.auto.1.1.1.1.1.1.0 ∙ c.band_pass.auto.1.1.1.1.1.1.0
-
-pub shape_of-links-in-Done : goal.shape_of-links-in-Done
-shape_of-links-in-Done c =
-    c.clear-in-Done.auto.0 ∙ c.own_rings.auto.1.1.1.0 ∙ c.band_pack-answer.auto.1.1.1.1.1.1.1.0 ∙ c.band_pass.auto.1.1.1.1.1.1.1.0
 
 pub returns-in-Done : goal.returns-in-Done
 returns-in-Done c =

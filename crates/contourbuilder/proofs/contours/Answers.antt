@@ -1,11 +1,9 @@
 -- `contourbuilder::contours` meets its contract: a refused pass has changed nothing, and after one that was done the outputs are what packing leaves, with the
 -- owners found, and both work tables are cleared. Assumes nothing.
-use mathlib.Core.Path.{◌∙◌}
 use native.Mathlib.Omega.{arith}
 use Rattle.isoringbuilder.proofs.Limits.{columns-fit}
 use Rattle.isoringbuilder.proofs.Laws.{done-facts}
 use Rattle.contourbuilder.proofs.Contoured.{contours-refused, ownable, contours-done}
-use borrow.Author.Rules.{rules}
 use Rattle.contourbuilder.proofs.contours.Goals as goal
 
 pub overflow_cast-dx : goal.overflow_cast-dx
@@ -24,10 +22,6 @@ open_words-requires c =
 
 pub returns-in-Refused : goal.returns-in-Refused
 returns-in-Refused c = contours-refused _ _ _ _ _ _ _ c.in-Refused.refusal c.in-Refused.is _ _ c.run_pass.ensures _ _
-
-pub shape_of-lines-in-Done : goal.shape_of-lines-in-Done
-shape_of-lines-in-Done c =
-    c.clear.auto.0 ∙ c.run_pass.auto.1.1.1.1.0
 
 pub returns-in-Done : goal.returns-in-Done
 returns-in-Done c =

@@ -2,7 +2,6 @@
 -- Assumes nothing.
 use Rattle.bands.proofs.Fit.{paired, pair-refused}
 use Rattle.contourbuilder.proofs.Banded.{isobands-unfit}
-use borrow.Author.Rules.{rules}
 use Rattle.contourbuilder.proofs.isobands.Goals as goal
 
 pub band_over-requires : goal.band_over-requires

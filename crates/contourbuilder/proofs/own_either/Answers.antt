@@ -1,5 +1,4 @@
 -- `contourbuilder::own_either` meets its contract: the records without areas are there, and spreading them out leaves whole ones. Assumes nothing.
-use borrow.Author.Rules.{rules}
 use Rattle.contourbuilder.proofs.Whole.{either-written}
 use Rattle.contourbuilder.proofs.own_either.Goals as goal
 

@@ -1,7 +1,6 @@
 -- `contourbuilder::own_rings` meets its contract: the parts of the points and of the link table that are lent are as long as asked, and what lies past the part
 -- that is worked in stays. Assumes nothing.
 use mathlib.Core.Path.{sym, ◌∙◌}
-use borrow.Author.Rules.{rules}
 use lib.Seq.{length-take-le}
 use Rattle.contourbuilder.proofs.Owning.{ownable-rings, none_written, owners-written}
 use Rattle.contourbuilder.proofs.own_rings.Goals as goal
@@ -27,7 +26,7 @@ pub returns-in-Rings : goal.returns-in-Rings
 returns-in-Rings c =
     let fits = (ownable-rings c.in-Rings.is _ _ _ _ _ c.requires).0 in
     let called = c.own_either in
-    owners-written c.in-Rings.is _ _ _ called.new.1.1.1.1.0 _ _ _ _ fits (called.auto.1.1.1.1.0 ∙ length-take-le _ _ fits) called.ensures
+    owners-written c.in-Rings.is _ _ _ called.new.scratch _ _ _ _ fits (called.auto.scratch ∙ length-take-le _ _ fits) called.ensures
 
 pub returns-in_default : goal.returns-in_default
 returns-in_default c = none_written c.in_default.is _ _ _ _ _ _

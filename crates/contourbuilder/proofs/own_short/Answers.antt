@@ -1,6 +1,5 @@
 -- `contourbuilder::own_short` meets its contract: each arm is the records' own. Assumes nothing.
 use Rattle.contourbuilder.specs.Owning.{records_by}
-use borrow.Author.Rules.{rules}
 use Rattle.contourbuilder.proofs.own_short.Goals as goal
 
 pub returns-then-band : goal.returns-then-band
