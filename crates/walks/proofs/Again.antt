@@ -10,11 +10,11 @@ use Prim.Native.Nat.{ℕ}
 use mathlib.Core.List.{List, [], ◌∷◌}
 use lib.ListN.{length}
 use seplogic.Ra.Ura.{Ura}
-use seplogic.Ra.TreeShare.{full_share}
+use base.Fraction.{full_share}
 use mir.Syntax.{Lifetime}
 use mir.Val.{Val}
-use base.Logic.{ent, sep, ex}
-use base.Fml.{Lft, GName, Share, Fml, fsep, flft, fdead, fobs, fauth, flent, fobor}
+use base.Logic.{ent, sep, ex, snd∗}
+use base.Fml.{Lft, GName, Share, Fml, fsep, flft, fdead, fobs, fauth, flent, fobor, fhide, feq}
 use types.Logic.{Logic, sem}
 use types.Kit.{Goal, Soaks, Item, ‵, ◌⊛◌, some, later, Seq, Step, step, ◌$◌, ◌∵◌, !, qed, move, use1, use2, use3, drop, split, pick, rewrite, fsplit, fjoin, feq_i, frame, await, updating, now as at_once, show, done}
 use types.Tokens.{lft_new, lft_end, lent_back}
@@ -26,8 +26,10 @@ use denote.Memory.{mem, shares}
 use denote.Laws.{Is, shows}
 use denote.Ref.{Bor, MutBor, at_last}
 use denote.Steps.{peeks}
-use denote.Slice.{slice_val, shr_slice_vals, mut_slice_vals, MutSlice, ShrSlice, heres, Room, finally, shr_slice_at, mut_slice_at, coded_holeys}
-use denote.Lend.{Held, lends_slice, slice_back, lends_shr_slice}
+use denote.Slice.{slice_val, mut_slice_vals, MutSlice, ShrSlice, heres, Room, finally, shr_slice_at, mut_slice_at, elements_shared, coded_holeys}
+use denote.Lend.{Held, lends_slice, slice_back}
+use denote.Lends.{Lent-map}
+use denote.Copied.{Copied, each_lends}
 use denote.Index.{row, whole_out, whole_in, opens_slice, closes_slice}
 use Rattle.walks.proofs.Rows.{Kind}
 
@@ -65,7 +67,7 @@ module _ (R : RattleType) (κ κ' : Lft) (q : Share) (γ : GName) (b o : ℕ) wh
 -- ---- the two as steps of a walk
 -- the slice as the callee has it, under the name δ
 abbrev pub under-name : {X : Type 0} → MutBor (List X) → GName → List X → MutBor (List X)
-under-name x δ ys = record { ref_ptr = x.ptr; ghost_name = δ; now = ys }
+under-name x δ ys = record { ref_ptr = x.ref_ptr; ghost_name = δ; now = ys }
 
 module _ {M : Type 1} {𝓤 : Ura M} {𝓛 : Logic 𝓤} {K : Type 0} {Γ : List (Item 𝓤)} {G : Goal 𝓤 𝓛.H} {R : RattleType} where
   pub lends : K → Soaks G → Kind R → (ℓ ℓ' : Lifetime) {κ : Lft} {q : Share} (x : MutBor (List R.Denot)) (ys : List R.Denot) (vs : List Val)
@@ -82,21 +84,28 @@ module _ {M : Type 1} {𝓤 : Ura M} {𝓛 : Logic 𝓤} {K : Type 0} {Γ : List
       use3 𝓛 (later (‵ ((MutSlice ℓ κ R).own_val (at_last x zs) (mut_slice_vals (at_last x ys))) ⊛ ‵ (flft κ q))) (comes_back R κ (ν ∷ []) q x.ghost_name x.ref_ptr.0 x.ref_ptr.1 𝓛 ℓ ℓ ys δ zs p.0.1 e) $ await t z $ split t $
       rewrite t 0 (λ (us : List Val). ‵ ((MutSlice ℓ κ R).own_val (at_last x zs) us)) (sym p.0.0) refl $ s)
 
--- ---- lent as a `&[T]`: what the holder keeps
+-- ---- lent as a `&[T]`: the slice as the callee has it, and what the holder keeps
+abbrev pub as-shared : {X : Type 0} → MutBor (List X) → List X → Bor (List X)
+as-shared x ys = record { ref_ptr = x.ref_ptr; now = ys }
+
 abbrev pub LentShared : (R : RattleType) → Lft → Lft → Share → MutBor (List R.Denot) → List R.Denot → Fml
-LentShared R κ κ' q x ys = fsep (flent κ' ((arr_parts (shares R) (length ys)).part full_share ys x.ptr.0 x.ptr.1))
-    (fsep (fobor κ q (Held R (length ys) x.ptr.0 x.ptr.1 x.name)) (fsep (fobs x.name ((coded_holeys R).code (heres R ys))) (fauth x.name ((coded_holeys R).code (heres R ys)))))
+LentShared R κ κ' q x ys = fsep (flent κ' ((arr_parts (shares R) (length ys)).part full_share ys x.ref_ptr.0 x.ref_ptr.1))
+    (fsep (fobor κ q (Held R (length ys) x.ref_ptr.0 x.ref_ptr.1 x.ghost_name)) (fsep (fobs x.ghost_name ((coded_holeys R).code (heres R ys))) (fauth x.ghost_name ((coded_holeys R).code (heres R ys)))))
 
 module _ {M : Type 1} {𝓤 : Ura M} {𝓛 : Logic 𝓤} {K : Type 0} {Γ : List (Item 𝓤)} {G : Goal 𝓤 𝓛.H} {R : RattleType} where
-  pub lends_shared : K → Soaks G → Kind R → (ℓ ℓ' : Lifetime) {κ : Lft} {q : Share} (x : Bor (List R.Denot)) (ys : List R.Denot) (vs : List Val)
-      → ((ν : ℕ) (δ : GName) → shadow (shr_slice_at R (at_last x ys) vs) → Seq K 𝓛 (‵ (flft (ν ∷ []) full_share) ∷ ‵ ((ShrSlice ℓ' (ν ∷ []) R).own_val (under-name x δ ys) vs) ∷ ‵ (LentShared R κ (ν ∷ []) q x ys) ∷ Γ) G)
+  pub lends_shared : K → Soaks G → Kind R → Copied 𝓛 R → (ℓ ℓ' : Lifetime) {κ : Lft} {q : Share} (x : MutBor (List R.Denot)) (ys : List R.Denot) (vs : List Val)
+      → ((ν : ℕ) → shadow (mut_slice_at R (at_last x ys) vs) → Seq K 𝓛 (‵ (flft (ν ∷ []) full_share) ∷ ‵ ((ShrSlice ℓ' (ν ∷ []) R).own_val (as-shared x ys) vs) ∷ ‵ (LentShared R κ (ν ∷ []) q x ys) ∷ Γ) G)
       → Seq K 𝓛 (‵ ((MutSlice ℓ κ R).own_val (at_last x ys) vs) ∷ ‵ (flft κ q) ∷ Γ) G
-  lends_shared t z k ℓ ℓ' {κ} {q} x ys vs go =
-      fsplit t $ pure_l t (shr_slice_at R (at_last x ys) vs) (λ p. fsplit t $ opens_slice t z R ys x.ref_ptr.0 x.ref_ptr.1 $ feq_i t ℕ (length ys) (length ys) refl $ fjoin t $ lft_new t z (λ ν. move t (1 ∷ []) $
-      use1 𝓛 (later (some (λ (δ : GName). ‵ ((ShrSlice ℓ' (ν ∷ []) R).own_val (under-name x δ ys) (shr_slice_vals (at_last x ys))) ⊛ ‵ (flent (ν ∷ []) ((arr_parts (shares R) (length ys)).part full_share ys x.ref_ptr.0 x.ref_ptr.1)))))
-      (lends_shr_slice 𝓛 R ℓ' (ν ∷ []) full_share ys x.ref_ptr.0 x.ref_ptr.1 p.1) $ await t z $ pick t (λ δ. split t $ rewrite t 0 (λ (us : List Val). ‵ ((ShrSlice ℓ' (ν ∷ []) R).own_val (under-name x δ ys) us)) (sym p.0) refl $
+  lends_shared t z k c ℓ ℓ' {κ} {q} x ys vs go =
+      fsplit t $ pure_l t (mut_slice_at R (at_last x ys) vs) (λ p. fsplit t $ opens_slice t z R ys x.ref_ptr.0 x.ref_ptr.1 $ feq_i t ℕ (length ys) (length ys) refl $ fjoin t $ lft_new t z (λ ν. move t (1 ∷ []) $
+      use1 𝓛 (later (‵ (fhide (elements_shared R ys x.ref_ptr.0 x.ref_ptr.1 (ν ∷ []))) ⊛ ‵ (flent (ν ∷ []) ((arr_parts (shares R) (length ys)).part full_share ys x.ref_ptr.0 x.ref_ptr.1))))
+      (Lent-map 𝓛 ((arr_parts (shares R) (length ys)).part full_share ys x.ref_ptr.0 x.ref_ptr.1) (row R full_share ys x.ref_ptr.0 x.ref_ptr.1) (elements_shared R ys x.ref_ptr.0 x.ref_ptr.1)
+      (snd∗ 𝓤 (sem 𝓛 (feq ℕ (length ys) (length ys))) (sem 𝓛 (row R full_share ys x.ref_ptr.0 x.ref_ptr.1)))
+      (qed 𝓛 (‵ (row R full_share ys x.ref_ptr.0 x.ref_ptr.1) ∷ []) {P = sem 𝓛 ((arr_parts (shares R) (length ys)).part full_share ys x.ref_ptr.0 x.ref_ptr.1)} (feq_i ! ℕ (length ys) (length ys) refl $ done !))
+      (each_lends 𝓛 R c full_share ys x.ref_ptr.0 x.ref_ptr.1) (ν ∷ [])) $ await t z $ split t $
+      pure_i t (shr_slice_at R (as-shared x ys) vs) (tt, (tt, tt)) p $ fjoin t $
       -- [the shared slice; the lender's part; the token of ν; the open borrow; obs; auth]
-      move t (4 ∷ 5 ∷ []) $ fjoin t $ move t (4 ∷ 0 ∷ []) $ fjoin t $ move t (2 ∷ 0 ∷ []) $ fjoin t $ move t (2 ∷ 1 ∷ 0 ∷ []) $ go ν δ p)))
+      move t (4 ∷ 5 ∷ []) $ fjoin t $ move t (4 ∷ 0 ∷ []) $ fjoin t $ move t (2 ∷ 0 ∷ []) $ fjoin t $ move t (2 ∷ 1 ∷ 0 ∷ []) $ go ν p))
 
   pub shared_back : K → Soaks G → Kind R → (ℓ : Lifetime) {κ : Lft} {q : Share} (x : MutBor (List R.Denot)) (ys : List R.Denot) (vs : List Val) (ν : ℕ) → shadow (mut_slice_at R (at_last x ys) vs)
       → Step K 𝓛 (‵ ((MutSlice ℓ κ R).own_val (at_last x ys) vs) ∷ ‵ (flft κ q) ∷ Γ) G (‵ (flft (ν ∷ []) full_share) ∷ ‵ (LentShared R κ (ν ∷ []) q x ys) ∷ Γ) G

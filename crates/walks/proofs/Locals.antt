@@ -11,11 +11,11 @@ use mathlib.Core.Option.{Option, none, some}
 use mathlib.Core.List.{List, [], ◌∷◌, ◌++◌, map}
 use lib.ListN.{length, take, drop as drop_n, take-append-drop}
 use seplogic.Ra.Ura.{Ura}
-use seplogic.Ra.TreeShare.{full_share}
+use base.Fraction.{full_share}
 use mir.Syntax.{Fn, Local, local, Ty, ty_ptr, place, copy}
 use mir.Val.{Val, vptr}
 use base.Logic.{SProp, ent, sep, emp, id⊢, via, comm∗, fst∗, mono_l, mono_r, mono∗, apply∗}
-use base.Fml.{Share, Fml, ftrue, ffalse, feq, flt, fsep, fand, for, fwand, fex, fall, fupd, fat, froom, fdies, flft, fdead, fobs, fauth, fres, fbor, fobor, flent, fshr_bor}
+use base.Fml.{Share, Fml, ftrue, ffalse, feq, flt, fsep, fand, for, fwand, fex, fall, fupd, fat, froom, fdies, flft, fdead, fobs, fauth, fres, fbor, fobor, flent, fshr_bor, fhide, fleft, fown, finv, fnamed, ftok, fkid, fme, fsent}
 use prog.Wp.{Heap, Env, Calls, Loops, WpFn, release, spot_of}
 use types.Logic.{Logic, sem}
 use types.Kit.{Item, ‵, raw, ◌⊛◌, some as someᴵ, given, later, mean, ⋆, nth, put, pop, ++⊢, ⊢++, Goal, prop, runs, at_ret, allocs, params', frees, aim, Seq, Step, step, ◌$◌, ◌∵◌, !, qed, move, split, join, use2, use1, feq_l, feq_i, rewrite, assume, frame, done}
@@ -51,8 +51,8 @@ module _ {M : Type 1} {𝓤 : Ura M} {𝓛 : Logic 𝓤} {K : Type 0} where
   open 𝓛 use {H}
 
   all-alloc : {Γ : List (Item 𝓤)} → K → (ls : List Local) (Kt : Env 𝓤 H → Goal 𝓤 H) → ((bs : Blocks ls) → Seq K 𝓛 (rooms 𝓤 H ls bs Γ) (Kt (env_of 𝓤 H ls bs))) → Seq K 𝓛 Γ (allocs ls Kt)
-  all-alloc t [] Kt k = alloc0 t $ k tt
-  all-alloc t (local τ h ∷ ls) Kt k = alloc1 t (λ b. all-alloc t ls (λ E. Kt ((τ, b) ∷ E)) (λ bs. k (b, bs)))
+  all-alloc {Γ = Γ} t [] Kt k = alloc0 t $ k tt
+  all-alloc {Γ = Γ} t (local τ h ∷ ls) Kt k = alloc1 t (λ b. all-alloc {Γ = ‵ (froom τ b 0) ∷ ‵ (fdies τ b) ∷ Γ} t ls (λ E. Kt ((τ, b) ∷ E)) (λ bs. k (b, bs)))
 
   pub enters : {Γ : List (Item 𝓤)} → K → (C : Calls 𝓤 H) (Λ : Loops 𝓤 H) (f : Fn) (vs : List Val) (Kf : Val → SProp 𝓤)
       → ((bs : Blocks f.locals) → Seq K 𝓛 (rooms 𝓤 H f.locals bs Γ) (params' (env_of 𝓤 H f.locals bs) vs (runs C Λ (env_of 𝓤 H f.locals bs) f.body (at_ret (env_of 𝓤 H f.locals bs) Kf))))
@@ -84,6 +84,15 @@ seen (fbor κ P) = fbor κ P
 seen (fobor κ q P) = fobor κ q P
 seen (flent κ P) = flent κ P
 seen (fshr_bor κ Φ) = fshr_bor κ Φ
+seen (fhide P) = fhide P
+seen (fleft q τ τs b o) = fleft q τ τs b o
+seen (fown R x y) = fown R x y
+seen (finv n) = finv n
+seen (fnamed x y) = fnamed x y
+seen (ftok x) = ftok x
+seen (fkid x y) = fkid x y
+seen (fme x) = fme x
+seen (fsent x) = fsent x
 
 module _ {M : Type 1} (𝓤 : Ura M) where
   abbrev pub seen_as : Item 𝓤 → Item 𝓤
@@ -135,6 +144,15 @@ module _ {M : Type 1} {𝓤 : Ura M} (𝓛 : Logic 𝓤) where
   see (fobor κ q P) = id⊢ 𝓤 _
   see (flent κ P) = id⊢ 𝓤 _
   see (fshr_bor κ Φ) = id⊢ 𝓤 _
+  see (fhide P) = id⊢ 𝓤 _
+  see (fleft q τ τs b o) = id⊢ 𝓤 _
+  see (fown R x y) = id⊢ 𝓤 _
+  see (finv n) = id⊢ 𝓤 _
+  see (fnamed x y) = id⊢ 𝓤 _
+  see (ftok x) = id⊢ 𝓤 _
+  see (fkid x y) = id⊢ 𝓤 _
+  see (fme x) = id⊢ 𝓤 _
+  see (fsent x) = id⊢ 𝓤 _
 
   see-as : (i : Item 𝓤) → mean 𝓛 i ⊢ mean 𝓛 (seen_as 𝓤 i)
   see-as (‵ F) = see F

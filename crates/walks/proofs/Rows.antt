@@ -13,21 +13,22 @@ use mathlib.Core.List.{List, [], ◌∷◌}
 use lib.Dec.{lit<}
 use lib.ListN.{length, get_or, set, length-set}
 use seplogic.Ra.Ura.{Ura}
-use seplogic.Ra.TreeShare.{full_share}
+use base.Fraction.{full_share}
 use mir.Syntax.{Lifetime, Width}
 use mir.Val.{Val}
-use base.Fml.{Lft, Share, flft, fobs, fauth, fobor}
+use base.Fml.{Lft, Share, flft, fobs, fauth, fobor, fhide}
 use types.Logic.{Logic}
 use types.Kit.{Goal, Soaks, Item, ‵, ◌⊛◌, Seq, Step, step, ◌$◌, move, drop, split, use1, fsplit, fjoin}
-use types.Share.{arr_parts}
 use denote.Exit.{Kept, unchanged}
-use denote.RattleType.{RattleType}
+use denote.RattleType.{RattleType, RowLaws}
 use denote.Shadow.{shadow, pure_l, pure_i}
 use denote.Laws.{Is, Tells, Makes, Copy, Lawful, shows}
 use denote.Memory.{cell_at, mem, shares}
 use denote.Plain.{UInt, uint_vals, uint_Tells, uint_copy, uint_Makes, uint_Lawful, Boolean, bool_vals, bool_Tells, bool-copy, bool_Makes, bool_Lawful, Nothing, nothing_vals, Nothing-Tells, Nothing-copy, Nothing-Makes, Nothing-Lawful}
 use denote.Ref.{Bor, MutBor, at_last}
-use denote.Slice.{slice_val, MutSlice, ShrSlice, Room, heres, coded_holeys, mut_slice_at, shr_slice_copy}
+use denote.Slice.{slice_val, MutSlice, ShrSlice, Room, heres, coded_holeys, mut_slice_at, shr_slice_at, elements_shared, shr_slice_copy}
+use denote.Copied.{Copied}
+use denote.Opens.{Shut}
 use denote.Lend.{Held}
 use denote.Index.{place, others, row, elem_out, elem_put, elem_back, opens_slice, closes_slice, looks_slice, shuts_slice}
 use denote.Steps.{owned}
@@ -102,17 +103,17 @@ pub fits : {R : RattleType} → Kind R → {n i : ℕ} → Room R n → i < n �
 fits {R} k room within = lt_of_le_of_lt (mul-le-mul_right (mem R).size (le_of_lt within)) (lt_trans room.1 (lit< tt))
 
 module _ {M : Type 1} {𝓤 : Ura M} {𝓛 : Logic 𝓤} {K : Type 0} {Γ : List (Item 𝓤)} {G : Goal 𝓤 𝓛.H} {R : RattleType} where
-  pub had : K → (k : Kind R) (y : R.Denot) → Is R y (k.vals y) → Step K 𝓛 (‵ (R.own y (k.vals y)) ∷ Γ) G Γ G
+  pub had : K → (k : Kind R) (y : R.Denot) → Is R y (k.vals y) → Step K 𝓛 (‵ (R.own_val y (k.vals y)) ∷ Γ) G Γ G
   had t k y is = owned t R (Is R) (k.makes 𝓛) y (k.vals y) is
 
-  pub doubles : K → Kind R → (ℓ : Lifetime) {κ : Lft} (x : Bor (List R.Denot)) (vs : List Val) → Step K 𝓛 (‵ ((ShrSlice ℓ κ R).own_val x vs) ∷ ‵ ((ShrSlice ℓ κ R).own_val x vs) ∷ Γ) G (‵ ((ShrSlice ℓ κ R).own_val x vs) ∷ Γ) G
-  doubles t k ℓ {κ} x vs = step (λ s. use1 𝓛 (‵ ((ShrSlice ℓ κ R).own_val x vs) ⊛ ‵ ((ShrSlice ℓ κ R).own_val x vs)) ((shr_slice_copy 𝓛 ℓ κ R).twice x vs) $ split t $ s)
+  pub doubles : K → Kind R → RowLaws R → (ℓ : Lifetime) (κ : Lft) (x : Bor (List R.Denot)) (vs : List Val) → Step K 𝓛 (‵ ((ShrSlice ℓ κ R).own_val x vs) ∷ ‵ ((ShrSlice ℓ κ R).own_val x vs) ∷ Γ) G (‵ ((ShrSlice ℓ κ R).own_val x vs) ∷ Γ) G
+  doubles t k L ℓ κ x vs = step (λ s. use1 𝓛 (‵ ((ShrSlice ℓ κ R).own_val x vs) ⊛ ‵ ((ShrSlice ℓ κ R).own_val x vs)) ((shr_slice_copy 𝓛 ℓ κ R L).twice x vs) $ split t $ s)
 
 -- x is the slice reference, and ys the elements that it has now
 module _ {M : Type 1} {𝓤 : Ura M} {𝓛 : Logic 𝓤} {K : Type 0} {Γ : List (Item 𝓤)} {G : Goal 𝓤 𝓛.H} {R : RattleType} where
   -- ---- a `&mut [R]`
   pub opens_at : K → Soaks G → (k : Kind R) (ℓ : Lifetime) {κ : Lft} {q : Share} (x : MutBor (List R.Denot)) (ys : List R.Denot) (vs : List Val) (i : ℕ) (d : R.Denot) → i < length ys
-      → (shadow (mut_slice_at R (at_last x ys) vs) → Is R (get_or ys i d) (k.vals (get_or ys i d)) → Seq K 𝓛 (‵ (cell_at full_share R.mir (k.vals (get_or ys i d)) x.ref_ptr.0 (place (mem R).size x.ref_ptr.1 i)) ∷ ‵ (R.own (get_or ys i d) (k.vals (get_or ys i d))) ∷ ‵ (others (shares R) full_share ys i x.ref_ptr.0 x.ref_ptr.1)
+      → (shadow (mut_slice_at R (at_last x ys) vs) → Is R (get_or ys i d) (k.vals (get_or ys i d)) → Seq K 𝓛 (‵ (cell_at full_share R.mir (k.vals (get_or ys i d)) x.ref_ptr.0 (place (mem R).size x.ref_ptr.1 i)) ∷ ‵ (R.own_val (get_or ys i d) (k.vals (get_or ys i d))) ∷ ‵ (others (shares R) full_share ys i x.ref_ptr.0 x.ref_ptr.1)
       ∷ ‵ (fobor κ q (Held R (length ys) x.ref_ptr.0 x.ref_ptr.1 x.ghost_name)) ∷ ‵ (fobs x.ghost_name ((coded_holeys R).code (heres R ys))) ∷ ‵ (fauth x.ghost_name ((coded_holeys R).code (heres R ys))) ∷ Γ) G)
       → Seq K 𝓛 (‵ ((MutSlice ℓ κ R).own_val (at_last x ys) vs) ∷ ‵ (flft κ q) ∷ Γ) G
   opens_at t z k ℓ x ys vs i d l s =
@@ -120,24 +121,24 @@ module _ {M : Type 1} {𝓤 : Ura M} {𝓛 : Logic 𝓤} {K : Type 0} {Γ : List
 
   pub closes_at : K → Soaks G → (k : Kind R) (ℓ : Lifetime) {κ : Lft} {q : Share} (x : MutBor (List R.Denot)) (ys : List R.Denot) (vs : List Val) (i : ℕ) (d y : R.Denot) → i < length ys → shadow (mut_slice_at R (at_last x ys) vs) → Is R y (k.vals y)
       → Step K 𝓛 (‵ ((MutSlice ℓ κ R).own_val (at_last x (set ys i y)) vs) ∷ ‵ (flft κ q) ∷ Γ) G
-      (‵ (cell_at full_share R.mir (k.vals y) x.ref_ptr.0 (place (mem R).size x.ref_ptr.1 i)) ∷ ‵ (R.own (get_or ys i d) (k.vals (get_or ys i d))) ∷ ‵ (others (shares R) full_share ys i x.ref_ptr.0 x.ref_ptr.1)
+      (‵ (cell_at full_share R.mir (k.vals y) x.ref_ptr.0 (place (mem R).size x.ref_ptr.1 i)) ∷ ‵ (R.own_val (get_or ys i d) (k.vals (get_or ys i d))) ∷ ‵ (others (shares R) full_share ys i x.ref_ptr.0 x.ref_ptr.1)
       ∷ ‵ (fobor κ q (Held R (length ys) x.ref_ptr.0 x.ref_ptr.1 x.ghost_name)) ∷ ‵ (fobs x.ghost_name ((coded_holeys R).code (heres R ys))) ∷ ‵ (fauth x.ghost_name ((coded_holeys R).code (heres R ys))) ∷ Γ) G
   closes_at t z k ℓ x ys vs i d y l p is = step (λ s. move t (1 ∷ []) $ drop t $ had t k y is $ move t (1 ∷ 0 ∷ []) $ elem_put t R full_share ys i y (k.vals y) x.ref_ptr.0 x.ref_ptr.1 l $
       closes_slice t z R ys (set ys i y) (length-set ys i y) x.ref_ptr.0 x.ref_ptr.1 $ fjoin t $
       pure_i t (mut_slice_at R (at_last x (set ys i y)) vs) (tt, (tt, tt)) (p.0 ∙ ap (λ (m : ℕ). slice_val x.ref_ptr m ∷ []) (sym (length-set ys i y)), subst (Room R) (sym (length-set ys i y)) p.1) $ fjoin t $ s)
 
   -- ---- a `&[R]`
-  pub looks-at : K → Soaks G → (k : Kind R) (ℓ : Lifetime) {κ : Lft} {q : Share} (x : Bor (List R.Denot)) (vs : List Val) (i : ℕ) (d : R.Denot) → i < length x.now
-      → ((q' : Share) → Is R (get_or x.now i d) (k.vals (get_or x.now i d)) → Seq K 𝓛 (‵ (cell_at q' R.mir (k.vals (get_or x.now i d)) x.ref_ptr.0 (place (mem R).size x.ref_ptr.1 i)) ∷ ‵ (R.own (get_or x.now i d) (k.vals (get_or x.now i d)))
-      ∷ ‵ (others (shares R) q' x.now i x.ref_ptr.0 x.ref_ptr.1) ∷ ‵ (fobor κ q ((arr_parts (shares R) (length x.now)).part q' x.now x.ref_ptr.0 x.ref_ptr.1)) ∷ ‵ ((ShrSlice ℓ κ R).own_val x vs) ∷ Γ) G)
+  pub looks-at : K → Soaks G → (k : Kind R) → Copied 𝓛 R → (ℓ : Lifetime) {κ : Lft} {q : Share} (x : Bor (List R.Denot)) (vs : List Val) (i : ℕ) (d : R.Denot) → i < length x.now
+      → ((q' : Share) → shadow (shr_slice_at R x vs) → Is R (get_or x.now i d) (k.vals (get_or x.now i d)) → Seq K 𝓛 (‵ (cell_at q' R.mir (k.vals (get_or x.now i d)) x.ref_ptr.0 (place (mem R).size x.ref_ptr.1 i)) ∷ ‵ (R.own_val (get_or x.now i d) (k.vals (get_or x.now i d)))
+      ∷ ‵ (others (shares R) q' x.now i x.ref_ptr.0 x.ref_ptr.1) ∷ Shut 𝓛 κ q (row R q' x.now x.ref_ptr.0 x.ref_ptr.1) ∷ ‵ (fhide (elements_shared R x.now x.ref_ptr.0 x.ref_ptr.1 κ)) ∷ Γ) G)
       → Seq K 𝓛 (‵ ((ShrSlice ℓ κ R).own_val x vs) ∷ ‵ (flft κ q) ∷ Γ) G
-  looks-at t z k ℓ x vs i d l s =
-      doubles t k ℓ x vs $ fsplit t $ drop t $ fsplit t $ drop t $ move t (0 ∷ 2 ∷ []) $
-      looks_slice t z R (Is R) (shows 𝓛 R) k.vals k.tells (k.copy 𝓛) x.now x.ref_ptr.0 x.ref_ptr.1 (λ q'. move t (2 ∷ []) $ drop t $
-      elem_out t R (Is R) (shows 𝓛 R) k.vals k.tells q' x.now i d x.ref_ptr.0 x.ref_ptr.1 l (λ is. s q' is))
+  looks-at t z k c ℓ x vs i d l s =
+      fsplit t $ pure_l t (shr_slice_at R x vs) (λ p. looks_slice t z R c x.now x.ref_ptr.0 x.ref_ptr.1 (λ q'.
+      elem_out t R (Is R) (shows 𝓛 R) k.vals k.tells q' x.now i d x.ref_ptr.0 x.ref_ptr.1 l (λ is. s q' p is)))
 
-  pub shuts-at : K → Soaks G → (k : Kind R) (ℓ : Lifetime) {κ : Lft} {q : Share} (x : Bor (List R.Denot)) (vs : List Val) (i : ℕ) (d : R.Denot) → i < length x.now → (q' : Share)
+  pub shuts-at : K → Soaks G → (k : Kind R) (ℓ : Lifetime) {κ : Lft} {q : Share} (x : Bor (List R.Denot)) (vs : List Val) (i : ℕ) (d : R.Denot) → i < length x.now → (q' : Share) → shadow (shr_slice_at R x vs)
       → Step K 𝓛 (‵ ((ShrSlice ℓ κ R).own_val x vs) ∷ ‵ (flft κ q) ∷ Γ) G
-      (‵ (cell_at q' R.mir (k.vals (get_or x.now i d)) x.ref_ptr.0 (place (mem R).size x.ref_ptr.1 i)) ∷ ‵ (R.own (get_or x.now i d) (k.vals (get_or x.now i d)))
-      ∷ ‵ (others (shares R) q' x.now i x.ref_ptr.0 x.ref_ptr.1) ∷ ‵ (fobor κ q ((arr_parts (shares R) (length x.now)).part q' x.now x.ref_ptr.0 x.ref_ptr.1)) ∷ ‵ ((ShrSlice ℓ κ R).own_val x vs) ∷ Γ) G
-  shuts-at t z k ℓ x vs i d l q' = step (λ s. elem_back t R q' x.now i d (k.vals (get_or x.now i d)) x.ref_ptr.0 x.ref_ptr.1 l $ shuts_slice t z R q' x.now x.ref_ptr.0 x.ref_ptr.1 $ move t (1 ∷ 0 ∷ []) $ s)
+      (‵ (cell_at q' R.mir (k.vals (get_or x.now i d)) x.ref_ptr.0 (place (mem R).size x.ref_ptr.1 i)) ∷ ‵ (R.own_val (get_or x.now i d) (k.vals (get_or x.now i d)))
+      ∷ ‵ (others (shares R) q' x.now i x.ref_ptr.0 x.ref_ptr.1) ∷ Shut 𝓛 κ q (row R q' x.now x.ref_ptr.0 x.ref_ptr.1) ∷ ‵ (fhide (elements_shared R x.now x.ref_ptr.0 x.ref_ptr.1 κ)) ∷ Γ) G
+  shuts-at t z k ℓ x vs i d l q' p = step (λ s. elem_back t R q' x.now i d (k.vals (get_or x.now i d)) x.ref_ptr.0 x.ref_ptr.1 l $ shuts_slice t z R q' x.now x.ref_ptr.0 x.ref_ptr.1 $ move t (1 ∷ []) $
+      pure_i t (shr_slice_at R x vs) (tt, (tt, tt)) p $ fjoin t $ s)

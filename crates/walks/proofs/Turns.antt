@@ -13,7 +13,7 @@ use mathlib.Core.WellFounded.{WellFounded}
 use lib.Dec.{T}
 use lib.WfN.{lt-wf_rel}
 use seplogic.Ra.Ura.{Ura}
-use mir.Syntax.{Name, Place, Opd as Operand, Body, seq, cond, skip, exit, call}
+use mir.Syntax.{Callee, Place, Opd as Operand, Body, seq, cond, skip, exit, call}
 use mir.Val.{Val, vbool}
 use base.Logic.{SProp, ent, sep, emp, id⊢, via, emp∗, comm∗, mono_l}
 use prog.Wp.{exits, Env, Calls, Loops}
@@ -57,7 +57,7 @@ module _ {M : Type 1} {𝓤 : Ura M} {𝓛 : Logic 𝓤} {K : Type 0} {Γ : List
       → Seq K 𝓛 Γ (runs C Λ E (seq (cond c skip (exit n)) b) q)
   tests t o on off = first t $ branches t o (λ z. skips t $ record { prf = (on z).prf }) (λ z. jumps t $ record { prf = (off z).prf })
 
-  module _ {f : Name} {xs : List Operand} {d : Place} {rest : Body} where
+  module _ {f : Callee} {xs : List Operand} {d : Place} {rest : Body} where
     pub calls-to : K → FmC 𝓤 H 𝓛.laws C → (S : Ended) (c : Clauses 𝓤 S) → Triple 𝓤 (C f) (triple_of 𝓛 S.signature (closing 𝓛 S c)) → (x : (triple_of 𝓛 S.signature (closing 𝓛 S c)).Ghost)
         → (tok : Item 𝓤) → mean 𝓛 tok ≡ alive 𝓛 S.signature x.0.0 x.0.1 → ent 𝓤 (emp 𝓤) ((c x.0.0 x.0.3).requires x.1)
         → (k : Kind (type_at S.signature.result x.0.0))
@@ -69,11 +69,11 @@ module _ {M : Type 1} {𝓤 : Ura M} {𝓛 : Logic 𝓤} {K : Type 0} {Γ : List
     calls-to t fm S c met x tok is-tok req k φ is-φ os go =
         recast 𝓛 (raw Tok) is-tok $ use2 𝓛 (raw (Spec.pre x)) (via 𝓤 (sep 𝓤 (emp 𝓤) (sep 𝓤 Tok Own)) (emp∗ 𝓤 (sep 𝓤 Tok Own)) (via 𝓤 (sep 𝓤 Asks (sep 𝓤 Tok Own)) (mono_l 𝓤 (sep 𝓤 Tok Own) req) (comm∗ 𝓤 Asks (sep 𝓤 Tok Own)))) $
         calls_at t fm Spec met x os (λ v.
-        use1 𝓛 (later (some (λ (r : Res S.signature x.0.0). (raw Tok ⊛ ‵ (R.own r (v ∷ []))) ⊛ some (λ (ws : Lasts S x.0.0 x.0.3). ‵ (lasts S x.0.0 x.0.3 ws) ⊛ raw ((c x.0.0 x.0.3).ensures x.1 r (at_exit S x.0.0 x.0.3 ws)))))) (id⊢ 𝓤 _) $
+        use1 𝓛 (later (some (λ (r : Res S.signature x.0.0). (raw Tok ⊛ ‵ (R.own_val r (v ∷ []))) ⊛ some (λ (ws : Lasts S x.0.0 x.0.3). ‵ (lasts S x.0.0 x.0.3 ws) ⊛ raw ((c x.0.0 x.0.3).ensures x.1 r (at_exit S x.0.0 x.0.3 ws)))))) (id⊢ 𝓤 _) $
         await t tt $ pick t (λ r. split t $ move t (1 ∷ []) $ pick t (λ ws. split t $ move t (1 ∷ []) $ recast 𝓛 (raw (fact 𝓤 (φ r ws))) (is-φ r ws) $ heard t (φ r ws) (λ e.
         -- [what is said of the last values; the tokens and the result]
         move t (1 ∷ []) $ split t $ recast 𝓛 tok (sym is-tok) $ move t (1 ∷ []) $ peeks t R (Is R) (shows 𝓛 R) r (v ∷ []) (λ is.
-        rewrite t 0 (λ (us : List Val). ‵ (R.own r us)) (k.tells r (v ∷ []) is) refl $ regoal t (λ (u : Val). lands C Λ E d u rest q) (ap only (k.tells r (v ∷ []) is)) refl $ move t (0 ∷ 2 ∷ 1 ∷ []) $
+        rewrite t 0 (λ (us : List Val). ‵ (R.own_val r us)) (k.tells r (v ∷ []) is) refl $ regoal t (λ (u : Val). lands C Λ E d u rest q) (ap only (k.tells r (v ∷ []) is)) refl $ move t (0 ∷ 2 ∷ 1 ∷ []) $
         go r ws e (subst (Is R r) (k.tells r (v ∷ []) is) is))))))
       where
         R : RattleType

@@ -1,2 +1,2 @@
-// No code: what the proofs by hand share of functions over a run of records. The borrow checker covers no such function, so each is walked through its MIR.
+// No code: what a proof by hand of a function over a run of records is made of, where its code is walked through as MIR.
 #![tactic(auto)]
