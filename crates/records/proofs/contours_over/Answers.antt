@@ -1,9 +1,14 @@
 -- `records::contours_over` meets its contract: `contours` is lent a front of the directory, and the rest stays. Assumes nothing.
-use borrow.Author.Rules.{rules}
 use Rattle.records.proofs.Lending.{lent_fits, lent_length, over-words, rings-fit}
 use Rattle.records.proofs.contours_over.Goals as goal
+
+pub slice_bounds-contours-end : goal.slice_bounds-contours-end
+slice_bounds-contours-end c = lent_fits _ _ c.lent_words-lent.ensures
+
+pub slice_bounds-contours-end-2 : goal.slice_bounds-contours-end-2
+slice_bounds-contours-end-2 c = lent_length _ _ c.lent_words-lent.ensures
 
 pub returns : goal.returns
 returns c =
     let called = c.contours in
-    over-words _ _ called.new.1.1.1.1.1.1.1.0 c.lent_words-lent.ensures called.auto.1.1.1.1.1.1.1.0 called.ensures (rings-fit _ _ _ _ _ _ called.ensures.answers)
+    over-words _ _ called.new.directory c.lent_words-lent.ensures called.auto.directory called.ensures (rings-fit _ _ _ _ _ _ called.ensures.answers)

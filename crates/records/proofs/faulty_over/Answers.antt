@@ -1,6 +1,5 @@
 -- `records::faulty_over` meets its contract: what `ring_set_faulty` says of a front of the directory. Assumes nothing.
 use native.Mathlib.Nat.{sub-zero}
-use borrow.Author.Rules.{rules}
 use Rattle.records.proofs.faulty_over.Goals as goal
 
 pub returns : goal.returns

@@ -1,6 +1,5 @@
 -- `records::length_over` meets its contract: what `geojson_length` says of a front of the directory. Assumes nothing.
 use native.Mathlib.Nat.{sub-zero}
-use borrow.Author.Rules.{rules}
 use Rattle.records.proofs.length_over.Goals as goal
 
 pub returns : goal.returns

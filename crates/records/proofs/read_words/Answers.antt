@@ -1,5 +1,4 @@
 -- `records::read_words` meets its contract: the code's test is the definition's. Assumes nothing.
-use borrow.Author.Rules.{rules}
 use Rattle.scope.specs.Limits.{record_stride}
 use Rattle.scope.specs.Room.{directory_words}
 use Rattle.records.specs.Over.{read_words}

@@ -1,5 +1,4 @@
 -- `records::rings_in` meets its contract: each arm is given the answer's variant, at which the definition computes. Assumes nothing.
-use borrow.Author.Rules.{rules}
 use Rattle.records.specs.Over.{rings_in}
 use Rattle.records.proofs.rings_in.Goals as goal
 
