@@ -11,15 +11,13 @@ use Rattle.contour_c.proofs.contour_area.Goals as goal
 pub returns-in-Area : goal.returns-in-Area
 unfolding area_answer area_output
 returns-in-Area c =
-    let found = c.found-1.given in
     let entry = c.args in
-    let told = given areas (area (points entry.ring.now)) entry.area.now (area_refused entry.ring.now) found.0.0 (sym found.1 ∙ c.area.ensures) in
-    (told.0, search rules ∙ told.1)
+    let told = given areas (area (points entry.ring.now)) entry.area.now (area_refused entry.ring.now) c.in-Area.found (sym c.in-Area.is ∙ c.area.ensures) in
+    record { value = told.0; area_after = search rules ∙ told.1 }
 
 pub returns-in-Refused : goal.returns-in-Refused
 unfolding area_answer area_output
 returns-in-Refused c =
-    let refusal = c.refusal-1.given in
     let entry = c.args in
-    let told = kept areas (area (points entry.ring.now)) entry.area.now (area_refused entry.ring.now) refusal.0.0 (sym refusal.1 ∙ c.area.ensures) in
-    (c.number.ensures ∙ told.0, told.1)
+    let told = kept areas (area (points entry.ring.now)) entry.area.now (area_refused entry.ring.now) c.in-Refused.refusal (sym c.in-Refused.is ∙ c.area.ensures) in
+    record { value = c.number.ensures ∙ told.0; area_after = told.1 }

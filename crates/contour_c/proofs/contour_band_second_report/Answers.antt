@@ -1,6 +1,5 @@
 -- `contour_c::contour_band_second_report` meets its contract: what `band_second_report` ensures and the arm's variant give the status and the outputs. Assumes nothing.
 use Rattle.contour_c.proofs.Answered.{second-given, second-kept}
-use borrow.Author.Rules.{rules}
 use Rattle.contour_c.proofs.contour_band_second_report.Goals as goal
 
 pub returns-in-Room : goal.returns-in-Room

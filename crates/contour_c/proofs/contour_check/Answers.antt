@@ -1,6 +1,5 @@
 -- `contour_c::contour_check` meets its contract: on either side of the test, what `ring_set_faulty` ensures gives the status. Assumes nothing.
 use mathlib.Core.Path.{sym, ◌∙◌, ap}
-use borrow.Author.Rules.{rules}
 use Rattle.contour_c.specs.Texts.{check_status}
 use Rattle.contour_c.proofs.contour_check.Goals as goal
 

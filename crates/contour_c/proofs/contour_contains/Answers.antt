@@ -4,7 +4,6 @@ use mathlib.Core.Path.{◌≡◌, sym, ◌∙◌}
 use mathlib.Core.List.{List}
 use Prim.Native.Nat.{ℕ}
 use lib.IntN.{ℤ}
-use borrow.Author.Rules.{rules}
 use Rattle.scope.specs.Area.{points}
 use Rattle.scope.specs.Containment.{Answer, outside, boundary, inside, answer_number, ring_against, contains_refused}
 use Rattle.area.specs.Answers.{contains_answer, place_of}
@@ -35,19 +34,24 @@ answered c place e =
 
 pub returns-in-Inside : goal.returns-in-Inside
 unfolding place_of answer_number
-returns-in-Inside c = answered (goal.at.returns-in-Inside c).After-contains inside c.in-Inside.is
+returns-in-Inside c =
+    let told = answered (goal.at.returns-in-Inside c).After-contains inside c.in-Inside.is in
+    record { value = told.0; answer_after = told.1 }
 
 pub returns-in-Boundary : goal.returns-in-Boundary
 unfolding place_of answer_number
-returns-in-Boundary c = answered (goal.at.returns-in-Boundary c).After-contains boundary c.in-Boundary.is
+returns-in-Boundary c =
+    let told = answered (goal.at.returns-in-Boundary c).After-contains boundary c.in-Boundary.is in
+    record { value = told.0; answer_after = told.1 }
 
 pub returns-in-Outside : goal.returns-in-Outside
 unfolding place_of answer_number
-returns-in-Outside c = answered (goal.at.returns-in-Outside c).After-contains outside c.in-Outside.is
+returns-in-Outside c =
+    let told = answered (goal.at.returns-in-Outside c).After-contains outside c.in-Outside.is in
+    record { value = told.0; answer_after = told.1 }
 
 pub returns-in-Refused : goal.returns-in-Refused
 unfolding contains_answer contains_output
 returns-in-Refused c =
-    let refusal = c.refusal-1.given in
-    let told = kept places (Place (goal.at.returns-in-Refused c).After-contains) (Old (goal.at.returns-in-Refused c).After-contains) (contains_refused (Outer (goal.at.returns-in-Refused c).After-contains) (Tested (goal.at.returns-in-Refused c).After-contains)) refusal.0.0 (sym refusal.1 ∙ c.contains.ensures) in
-    (c.number.ensures ∙ told.0, told.1)
+    let told = kept places (Place (goal.at.returns-in-Refused c).After-contains) (Old (goal.at.returns-in-Refused c).After-contains) (contains_refused (Outer (goal.at.returns-in-Refused c).After-contains) (Tested (goal.at.returns-in-Refused c).After-contains)) c.in-Refused.refusal (sym c.in-Refused.is ∙ c.contains.ensures) in
+    record { value = c.number.ensures ∙ told.0; answer_after = told.1 }

@@ -1,6 +1,5 @@
 -- `contour_c::contour_isobands` meets its contract: what `isobands` ensures and the arm's variant give the status and the output. Assumes nothing.
 use Rattle.contour_c.proofs.Answered.{rings-given, rings-kept}
-use borrow.Author.Rules.{rules}
 use Rattle.contour_c.proofs.contour_isobands.Goals as goal
 
 pub returns-in-Rings : goal.returns-in-Rings

@@ -2,7 +2,6 @@
 use Rattle.smoothing.specs.Values.{placing_of}
 use Rattle.contour_c.specs.Rings.{asked}
 use Rattle.contour_c.proofs.Answered.{rings-given, rings-kept}
-use borrow.Author.Rules.{rules}
 use Rattle.contour_c.proofs.contour_lines.Goals as goal
 
 pub returns-in-Rings : goal.returns-in-Rings

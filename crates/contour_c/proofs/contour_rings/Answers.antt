@@ -1,6 +1,5 @@
 -- `contour_c::contour_rings` meets its contract: what `contour_rings` of `isoringbuilder` ensures and the arm's variant give the status and the output. Assumes nothing.
 use Rattle.contour_c.proofs.Answered.{rings-given, rings-kept}
-use borrow.Author.Rules.{rules}
 use Rattle.contour_c.proofs.contour_rings.Goals as goal
 
 pub returns-in-Rings : goal.returns-in-Rings

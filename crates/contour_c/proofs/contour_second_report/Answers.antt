@@ -1,6 +1,5 @@
 -- `contour_c::contour_second_report` meets its contract: what `second_report` ensures and the arm's variant give the status and the outputs. Assumes nothing.
 use Rattle.contour_c.proofs.Answered.{second-given, second-kept}
-use borrow.Author.Rules.{rules}
 use Rattle.contour_c.proofs.contour_second_report.Goals as goal
 
 pub returns-in-Room : goal.returns-in-Room
