@@ -1,14 +1,14 @@
 -- How long a text is that the program accepts: 6,156 bytes at most, since a number has five digits at most, and a side two. So a byte more than that is enough to
 -- see that a text is too long. Assumes nothing.
-use mathlib.Core.Path.{◌≡◌, refl, ap}
+use mathlib.Core.Path.{ap}
 use mathlib.Core.Bool.{Bool, true, false}
-use mathlib.Core.List.{List, [], ◌∷◌, ◌++◌}
+use mathlib.Core.List.{List, [], ◌∷◌}
 use Prim.Native.Nat.{ℕ, zero, suc, ◌+◌, ◌*◌, ◌/◌, ◌%◌, ◌^◌, ◌≤◌, ◌<◌}
 use native.Mathlib.Nat.{mul-le-mul, pow-suc}
 use native.Mathlib.Omega.{arith}
 use lib.Dec.{ltb}
 use lib.ListN.{length, take, drop, length-append}
-use borrow.Author.Tests.{lt-ltb, ltb-false}
+use borrow.Author.Tests.{lt-ltb}
 use Rattle.scope.specs.GeoJson.{decimal_by, decimal}
 use Rattle.scope.specs.Program.{number_limit, program_side, Input, NoneOver, spaced, line_text, rows_text, input_text, Accepts}
 

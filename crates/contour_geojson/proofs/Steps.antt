@@ -1,7 +1,7 @@
 -- The steps of the program: a set that the writer takes is written, what was read is a terrain whose text is the input's, and any two results that meet the last
 -- contract coincide. Assumes nothing.
 use mathlib.Core.Path.{◌≡◌, refl, sym, ◌∙◌, ap, ap₂, subst}
-use mathlib.Core.List.{List, ◌++◌, map}
+use mathlib.Core.List.{List, map}
 use Prim.Native.Nat.{ℕ, ◌-◌, ◌*◌, ◌≤◌}
 use native.Mathlib.Omega.{arith}
 use lib.Ieee.{Float}
@@ -16,12 +16,12 @@ use Rattle.scope.specs.Program.{program_side, Input, input_sheet, contour_text, 
 use Rattle.geojson.specs.Written.{written_answer, text_after}
 use Rattle.geojson.specs.declared.TextAnswer.{TextAnswer}
 use Rattle.geojson.specs.declared.TextAnswer.TheVariants.{Bytes, Refused}
-use Rattle.geojson.proofs.Laws.{Writing, WritingExact, writing-exact}
+use Rattle.geojson.proofs.Laws.{WritingExact, writing-exact}
 use Rattle.reading.specs.Reads.{TerrainRead, InputRead}
 use Rattle.reading.specs.declared.Reading.{Reading}
 use Rattle.reading.specs.declared.Reading.TheVariants.{Terrain, Faulty}
 use Rattle.reading.proofs.Inputs.{one-reading}
-use Rattle.contour_geojson.specs.Drawing.{Small, Writable, Stands, TextDrawn, InputDrawn}
+use Rattle.contour_geojson.specs.Drawing.{Small, Writable, Stands, InputDrawn}
 use Rattle.contour_geojson.specs.declared.Drawn.{Drawn}
 use Rattle.contour_geojson.specs.declared.Drawn.TheVariants as drawn-is
 

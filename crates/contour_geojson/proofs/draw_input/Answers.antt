@@ -1,6 +1,5 @@
 -- `contour_geojson::draw_input` meets its contract: what was read is a terrain that the program draws, and its text is the input's. Assumes nothing.
 use Rattle.contour_geojson.proofs.Steps.{nothing_read, sides-within, values-there, grid-is-small, input-drawn}
-use borrow.Author.Rules.{rules}
 use Rattle.contour_geojson.proofs.draw_input.Goals as goal
 
 pub sample_count-n-requires : goal.sample_count-n-requires

@@ -1,7 +1,6 @@
 -- `contour_geojson::sample_count` is safe: there are 1,024 samples at most. Assumes nothing.
 use native.Mathlib.Nat.{mul-le-mul}
 use native.Mathlib.Omega.{arith}
-use borrow.Author.Rules.{rules}
 use Rattle.scope.specs.Program.{program_side}
 use Rattle.contour_geojson.proofs.sample_count.Goals as goal
 

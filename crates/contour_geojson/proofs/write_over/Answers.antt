@@ -1,7 +1,6 @@
 -- `contour_geojson::write_over` meets its contract: the tables have the room, so the build gives all rings and their set is one that the writer takes. Assumes
 -- nothing.
 use Rattle.contour_geojson.proofs.Rooms.{no-refusal, set-is-writable, contour-stands}
-use borrow.Author.Rules.{rules}
 use Rattle.contour_geojson.proofs.write_over.Goals as goal
 
 pub write_rings-requires : goal.write_rings-requires
