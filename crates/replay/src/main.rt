@@ -3,7 +3,7 @@
 // word short, and in generous room, and so are the builds and the readers by records. Grids of rings, contours and bands are run under both rules, and each
 // line of the third text names its own. The grids of rings are run row by row, too, and of every contour the fate of each ring is worked out anew. Then the
 // longest sides that pass, the nearest that do not, and lists without a pair are run.
-// A program has no exit status of its own: what differs stands in what it writes, which is held to the file stdout.
+// No exit status tells of a difference: what differs stands in what is written, which is held to the file stdout.
 #![tactic(auto)]
 
 mod areas;
