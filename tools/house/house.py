@@ -29,7 +29,7 @@ def read_groups(text):
             groups.append((line.lstrip("# ").strip(), {}))
         elif ":" in line:
             name, uses = line.split(":")
-            groups[-1][1][name.strip()] = uses.split()
+            groups[-1][1][name.split()[0]] = uses.split()
     return groups
 
 
