@@ -42,7 +42,7 @@ needed_crates() {
 # Whether a crate looks as if it had to be proved: it never was, or a file of it is newer than what was made of it.
 looks_unproved() {
     local out=$root/crates/$1/out made
-    for made in "$out/rlib/$1.rlib" "$out/lib$1.a"; do
+    for made in "$out/rlib/stamp" "$out/lib$1.a"; do
         if [ -e "$made" ]; then
             [ -n "$(find "$root/crates/$1" -path "$out" -prune -o -newer "$made" -name '*.*t' -print -quit)" ]
             return
