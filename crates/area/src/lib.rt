@@ -11,16 +11,7 @@ ghost use Rattle.area.specs.Summed.{SummedUp};
 use error::Refusal;
 use limits::{COORDINATE_LIMIT, POINT_LIMIT};
 
-// What `area` answers.
-#[derive(Clone, Copy)]
-pub enum AreaAnswer {
-    // the signed area, the crate's undivided one times 4: above 0 is a polygon, otherwise a hole
-    Area(i64),
-    // the words are no ring
-    Refused(Refusal),
-}
-
-// What `contains` answers.
+// What `contains` answers of a tested ring against an outer one.
 #[derive(Clone, Copy)]
 pub enum Containment {
     // the first deciding vertex of the tested ring lies inside the outer ring
@@ -29,8 +20,6 @@ pub enum Containment {
     Boundary,
     // the first deciding vertex of the tested ring lies outside the outer ring
     Outside,
-    // the words of a ring are faulty, or the outer ring is empty
-    Refused(Refusal),
 }
 
 // Whether the words are faulty: an odd count, too many points, or a coordinate above the limit.
@@ -103,16 +92,16 @@ pub fn sum_up(ring: &[u16]) -> RingSums
     RingSums { over, gained, lost }
 }
 
-// The signed area of a ring, or the refusal of words that are no ring.
-pub fn area(ring: &[u16]) -> AreaAnswer
+// The signed area of a ring, the crate's undivided one times 4: above 0 is a polygon, otherwise a hole. Number 11 where the words are no ring.
+pub fn area(ring: &[u16]) -> Result<i64, Refusal>
     ensures { result ≡ area_answer ring.now }
 {
     if no_ring(ring) {
-        return AreaAnswer::Refused(Refusal::BadRing);
+        return Err(Refusal::BadRing);
     }
     let sums = sum_up(ring);
     let signed = sums.gained as i64 - sums.lost as i64;
-    AreaAnswer::Area(signed)
+    Ok(signed)
 }
 
 // Whether k lies between m and n, ends included.
@@ -166,15 +155,16 @@ pub fn flips(ax: u16, ay: u16, bx: u16, by: u16, px: u16, py: u16) -> bool
     false
 }
 
-// The tested ring against the outer ring: the first tested vertex that lies on no pair of the outer ring decides.
-pub fn contains(outer: &[u16], tested: &[u16]) -> Containment
+// The tested ring against the outer ring: the first tested vertex that lies on no pair of the outer ring decides. Number 11 where the words of a ring are faulty, or
+// the outer ring is empty.
+pub fn contains(outer: &[u16], tested: &[u16]) -> Result<Containment, Refusal>
     ensures { result ≡ contains_answer outer.now tested.now }
 {
     if no_ring(outer) {
-        return Containment::Refused(Refusal::BadRing);
+        return Err(Refusal::BadRing);
     }
     if faulty(tested) {
-        return Containment::Refused(Refusal::BadRing);
+        return Err(Refusal::BadRing);
     }
     let n = outer.len();
     let mut v = 0;
@@ -198,9 +188,9 @@ pub fn contains(outer: &[u16], tested: &[u16]) -> Containment
             k += 2;
         }
         if within {
-            return Containment::Inside;
+            return Ok(Containment::Inside);
         }
-        return Containment::Outside;
+        return Ok(Containment::Outside);
     }
-    Containment::Boundary
+    Ok(Containment::Boundary)
 }

@@ -14,11 +14,9 @@ use Rattle.error.specs.declared.Refusal.TheVariants.{FewThresholds, NoPair}
 use Rattle.scope.specs.declared.Rule.{Rule}
 use Rattle.scope.specs.declared.Level.{Level}
 use Rattle.grid.specs.Grid.{grid_fit}
-use Rattle.grid.specs.declared.GridFit.{GridFit}
-use Rattle.grid.specs.declared.GridFit.TheVariants as fit_is
 use Rattle.bands.specs.Bands.{list_fit, band_fit, level_at, fit_pair}
-use Rattle.bands.specs.declared.BandFit.{BandFit}
-use Rattle.bands.specs.declared.BandFit.TheVariants as pair_is
+use Rattle.std.specs.Prelude.{Result, Ok, Err}
+use Rattle.bands.specs.declared.BandLevels.{BandLevels}
 
 -- more than one threshold is left from place k on exactly where k + 1 is a place
 pub pair_left : (thresholds k : ℕ) → k < thresholds → ltb 1 (thresholds - k) ≡ ltb (suc k) thresholds
@@ -29,66 +27,66 @@ pair_left thresholds k h = by (dec_lt (suc k) thresholds)
     by (no over) = le-ltb 1 (thresholds - k) (omega arith) ∙ sym (le-ltb (suc k) thresholds (omega arith))
 
 module _ (count dx dy thresholds k : ℕ) where
-  pub grid-refused : (why : Refusal) → grid_fit count dx dy ≡ fit_is.Refused why → band_fit count dx dy thresholds k ≡ fit_is.Refused why
+  pub grid-refused : (why : Refusal) → grid_fit count dx dy ≡ Err why → band_fit count dx dy thresholds k ≡ Err why
   unfolding band_fit list_fit
   grid-refused why e = rw e
 
-  module _ (fits : grid_fit count dx dy ≡ fit_is.Fits) where
-    pub few : thresholds < 2 → band_fit count dx dy thresholds k ≡ fit_is.Refused FewThresholds
+  module _ (fits : grid_fit count dx dy ≡ Ok tt) where
+    pub few : thresholds < 2 → band_fit count dx dy thresholds k ≡ Err FewThresholds
     unfolding band_fit list_fit
     few h = rw (fits, lt-ltb thresholds 2 h)
 
-    pub no-pair : 2 ≤ thresholds → ltb (suc k) thresholds ≡ false → band_fit count dx dy thresholds k ≡ fit_is.Refused NoPair
+    pub no-pair : 2 ≤ thresholds → ltb (suc k) thresholds ≡ false → band_fit count dx dy thresholds k ≡ Err NoPair
     unfolding band_fit list_fit
     no-pair h n = rw (fits, le-ltb thresholds 2 h, n)
 
-    pub pair : 2 ≤ thresholds → ltb (suc k) thresholds ≡ true → band_fit count dx dy thresholds k ≡ fit_is.Fits
+    pub pair : 2 ≤ thresholds → ltb (suc k) thresholds ≡ true → band_fit count dx dy thresholds k ≡ Ok tt
     unfolding band_fit list_fit
     pair h n = rw (fits, le-ltb thresholds 2 h, n)
 
   pub record Fitting : Type 0 where
-    pub grid : grid_fit count dx dy ≡ fit_is.Fits
+    pub grid : grid_fit count dx dy ≡ Ok tt
     pub place : suc k < thresholds
 
-  pub fitting : band_fit count dx dy thresholds k ≡ fit_is.Fits → Fitting
+  pub fitting : band_fit count dx dy thresholds k ≡ Ok tt → Fitting
   unfolding band_fit list_fit
   fitting e = by (grid_fit count dx dy) (ltb thresholds 2) (ltb (suc k) thresholds) refl refl refl e
     where
-      by : (fit : GridFit) (a b : Bool) → grid_fit count dx dy ≡ fit → ltb thresholds 2 ≡ a → ltb (suc k) thresholds ≡ b → list_fit fit thresholds k ≡ fit_is.Fits → Fitting
-      by (fit_is.Refused why) a b ef ea eb z = absurd (let o : ◌≡◌ {A = ℕ} 0 1 = cc in omega arith)
-      by fit_is.Fits true b ef ea eb z = absurd (let w : cond true (fit_is.Refused FewThresholds) (cond (ltb (suc k) thresholds) fit_is.Fits (fit_is.Refused NoPair)) ≡ fit_is.Fits = rw ea at z in let o : ◌≡◌ {A = ℕ} 0 1 = cc in omega arith)
-      by fit_is.Fits false true ef ea eb z = record { grid = ef; place = ltb-true (suc k) thresholds eb }
-      by fit_is.Fits false false ef ea eb z = absurd (let w : fit_is.Refused NoPair ≡ fit_is.Fits = rw (ea, eb) at z in let o : ◌≡◌ {A = ℕ} 0 1 = cc in omega arith)
+      by : (fit : Result (Unit {0}) Refusal) (a b : Bool) → grid_fit count dx dy ≡ fit → ltb thresholds 2 ≡ a → ltb (suc k) thresholds ≡ b → list_fit fit thresholds k ≡ Ok tt → Fitting
+      by (Err why) a b ef ea eb z = absurd (let o : ◌≡◌ {A = ℕ} 0 1 = cc in omega arith)
+      by (Ok tt) true b ef ea eb z = absurd (let w : cond true (Err FewThresholds) (cond (ltb (suc k) thresholds) (Ok tt) (Err NoPair)) ≡ Ok tt = rw ea at z in let o : ◌≡◌ {A = ℕ} 0 1 = cc in omega arith)
+      by (Ok tt) false true ef ea eb z = record { grid = ef; place = ltb-true (suc k) thresholds eb }
+      by (Ok tt) false false ef ea eb z = absurd (let w : Err NoPair ≡ Ok tt = rw (ea, eb) at z in let o : ◌≡◌ {A = ℕ} 0 1 = cc in omega arith)
 
 -- what is known of the levels that a band is drawn between, and of a refusal
 module _ (count dx dy k : ℕ) (thresholds : List Float) (rule : Rule) where
-  abbrev fit : GridFit
+  abbrev fit : Result (Unit {0}) Refusal
   fit = band_fit count dx dy (length thresholds) k
 
   pub record Paired (lower upper : Level) : Type 0 where
-    pub fits : band_fit count dx dy (length thresholds) k ≡ fit_is.Fits
-    pub grid : grid_fit count dx dy ≡ fit_is.Fits
+    pub fits : band_fit count dx dy (length thresholds) k ≡ Ok tt
+    pub grid : grid_fit count dx dy ≡ Ok tt
     pub lower-is : lower ≡ level_at thresholds rule k
     pub upper_is : upper ≡ level_at thresholds rule (suc k)
 
-  pub paired : (answer : BandFit) (lower upper : Level) → answer ≡ pair_is.Fits lower upper → answer ≡ fit_pair (band_fit count dx dy (length thresholds) k) thresholds rule k → Paired lower upper
+  pub paired : (answer : Result BandLevels Refusal) (lower upper : Level) → answer ≡ Ok (record { lower = lower; upper = upper }) → answer ≡ fit_pair (band_fit count dx dy (length thresholds) k) thresholds rule k → Paired lower upper
   unfolding fit_pair
   paired answer lower upper e f = by fit refl (sym e ∙ f)
     where
-      by : (v : GridFit) → fit ≡ v → pair_is.Fits lower upper ≡ fit_pair v thresholds rule k → Paired lower upper
-      by (fit_is.Refused why) g z = absurd (let o : ◌≡◌ {A = ℕ} 0 1 = cc in omega arith)
-      by fit_is.Fits g z = record {
+      by : (v : Result (Unit {0}) Refusal) → fit ≡ v → Ok (record { lower = lower; upper = upper }) ≡ fit_pair v thresholds rule k → Paired lower upper
+      by (Err why) g z = absurd (let o : ◌≡◌ {A = ℕ} 0 1 = cc in omega arith)
+      by (Ok tt) g z = record {
         fits = g;
         grid = (fitting count dx dy (length thresholds) k g).grid;
         lower-is = cc;
         upper_is = cc;
       }
 
-  pub pair-refused : (answer : BandFit) (why : Refusal) → answer ≡ pair_is.Refused why → answer ≡ fit_pair (band_fit count dx dy (length thresholds) k) thresholds rule k
-      → band_fit count dx dy (length thresholds) k ≡ fit_is.Refused why
+  pub pair-refused : (answer : Result BandLevels Refusal) (why : Refusal) → answer ≡ Err why → answer ≡ fit_pair (band_fit count dx dy (length thresholds) k) thresholds rule k
+      → band_fit count dx dy (length thresholds) k ≡ Err why
   unfolding fit_pair
   pair-refused answer why e f = by fit refl (sym e ∙ f)
     where
-      by : (v : GridFit) → fit ≡ v → pair_is.Refused why ≡ fit_pair v thresholds rule k → fit ≡ fit_is.Refused why
-      by (fit_is.Refused other) g z = let same : other ≡ why = cc in g ∙ ap fit_is.Refused same
-      by fit_is.Fits g z = absurd (let o : ◌≡◌ {A = ℕ} 0 1 = cc in omega arith)
+      by : (v : Result (Unit {0}) Refusal) → fit ≡ v → Err why ≡ fit_pair v thresholds rule k → fit ≡ Err why
+      by (Err other) g z = let same : other ≡ why = cc in g ∙ ap Err same
+      by (Ok tt) g z = absurd (let o : ◌≡◌ {A = ℕ} 0 1 = cc in omega arith)

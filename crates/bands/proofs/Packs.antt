@@ -17,10 +17,10 @@ use Rattle.lines.specs.Values.{tables_of}
 use Rattle.lines.specs.declared.Progress.{Progress}
 use Rattle.isoringbuilder.specs.Verdict.{Verdict, refused, passes}
 use Rattle.isoringbuilder.specs.Pass.{stitched_tables, pass_table, packed}
-use Rattle.isoringbuilder.specs.declared.Built.TheVariants as built-is
 use Rattle.bands.specs.Bands.{band_room}
 use Rattle.bands.specs.Passing.{stored_from, BandPacked}
 use Rattle.bands.specs.declared.BandDrawing.{BandDrawing}
+use Rattle.std.specs.Prelude.{Ok, Err}
 
 -- words stored in the part of a table from a place on
 pub stored-part : (place : ℕ) (table words part : List ℕ) → part ≡ sets (mid_of place (length table - place) table) 0 words → put_mid place (length table - place) table part ≡ stored_from place words table
@@ -48,7 +48,7 @@ module _ (L : Sheet) (dx dy : ℕ) (d : BandDrawing) (lines links points directo
       sets (stored_from (4 * d.lower_rings) (walk_records links 0 0 d.head d.upper_segments) directory) 0
       (walk_records again.links 0 0 again.progress.head d.lower_segments)
 
-  by-refusal : (why : Refusal) → room ≡ refused why → BandPacked L dx dy d lines links points directory (built-is.Refused why) lines links points directory
+  by-refusal : (why : Refusal) → room ≡ refused why → BandPacked L dx dy d lines links points directory (Err why) lines links points directory
   unfolding packed pass_table
   by-refusal why e = record {
     answers = ap (λ (v : Verdict). packed v (d.lower_rings + d.upper_rings)) (sym e);
@@ -64,10 +64,10 @@ module _ (L : Sheet) (dx dy : ℕ) (d : BandDrawing) (lines links points directo
   abbrev record-need : ℕ
   record-need = band_directory_words d.lower_rings d.upper_rings
 
-  pub points-short : length points < point-need → BandPacked L dx dy d lines links points directory (built-is.Refused PointsShort) lines links points directory
+  pub points-short : length points < point-need → BandPacked L dx dy d lines links points directory (Err PointsShort) lines links points directory
   points-short h = by-refusal PointsShort (unfold band_room in rw (lt-ltb (length points) point-need h))
 
-  pub directory-short : point-need ≤ length points → length directory < record-need → BandPacked L dx dy d lines links points directory (built-is.Refused DirectoryShort) lines links points directory
+  pub directory-short : point-need ≤ length points → length directory < record-need → BandPacked L dx dy d lines links points directory (Err DirectoryShort) lines links points directory
   directory-short h k = by-refusal DirectoryShort (unfold band_room in rw (le-ltb (length points) point-need h, lt-ltb (length directory) record-need k))
 
   -- the numbers by which the code goes on, and the stores it makes
@@ -78,10 +78,10 @@ module _ (L : Sheet) (dx dy : ℕ) (d : BandDrawing) (lines links points directo
       → directory₁ ≡ stored_from records (walk_records links 0 0 d.head d.upper_segments) directory
       → points' ≡ sets points₁ 0 (walk_points dx links' p.head p.head d.lower_segments)
       → directory' ≡ sets directory₁ 0 (walk_records links' 0 0 p.head d.lower_segments)
-      → BandPacked L dx dy d lines links points directory (built-is.Rings rings) lines' links' points' directory'
+      → BandPacked L dx dy d lines links points directory (Ok rings) lines' links' points' directory'
   unfolding packed pass_table stitched_tables
   packs-done h k rings words records er ew ed p lines' links' e points₁ directory₁ points' directory' pe de pe' de' = record {
-    answers = ap built-is.Rings er ∙ ap (λ (v : Verdict). packed v (d.lower_rings + d.upper_rings)) (sym is-passes);
+    answers = ap Ok er ∙ ap (λ (v : Verdict). packed v (d.lower_rings + d.upper_rings)) (sym is-passes);
     lines_are = ap (λ (t : Tables). t.lines) e ∙ ap (λ (v : Verdict). pass_table v lines again.lines) (sym is-passes);
     links-are = ap (λ (t : Tables). t.links) e ∙ ap (λ (v : Verdict). pass_table v links again.links) (sym is-passes);
     points-are =

@@ -19,14 +19,13 @@ use Rattle.grid.specs.Grid.{Sized}
 use Rattle.scan.specs.Rows.{Marked}
 use Rattle.scan.specs.Scanned.{scanned}
 use Rattle.scan.specs.declared.Counts.{Counts}
-use Rattle.grid.specs.declared.GridFit.TheVariants as fit_is
 use Rattle.isoringbuilder.specs.Verdict.{Verdict, refused, passes, after_grid}
 use Rattle.isoringbuilder.specs.Pass.{stitched_tables, pass_table}
 use Rattle.bands.specs.Bands.{band_verdict}
 use Rattle.bands.specs.Passing.{after_upper, band_drawing, band_passed, BandPassed}
 use Rattle.bands.specs.declared.BandDrawing.{BandDrawing}
-use Rattle.bands.specs.declared.BandPass.TheVariants as pass-is
 use Rattle.bands.proofs.Stitched.{StitchedOver, stitched-over}
+use Rattle.std.specs.Prelude.{Ok, Err}
 
 -- each set needs no more than the band
 pub open-needs : (dx h h' : ℕ) → (open_words dx h ≤ band_open_words dx h h') × (open_words dx h' ≤ band_open_words dx h h')
@@ -79,12 +78,12 @@ module _ (values : List Float) (lower upper : Level) (dx dy : ℕ) (lines links 
   U = terrain (above_at upper) values dx dy
 
   abbrev verdict : Verdict
-  verdict = band_verdict fit_is.Fits L U dx dy (length lines) (length links)
+  verdict = band_verdict (Ok tt) L U dx dy (length lines) (length links)
 
   abbrev last : Tables
   last = after_upper L U dx dy lines links
 
-  by-refusal : (why : Refusal) → verdict ≡ refused why → BandPassed values lower upper dx dy lines links (pass-is.Refused why) lines links marks
+  by-refusal : (why : Refusal) → verdict ≡ refused why → BandPassed values lower upper dx dy lines links (Err why) lines links marks
   unfolding band_passed pass_table
   by-refusal why e = record {
     answers = ap (λ (v : Verdict). band_passed v L U dx dy last) (sym e);
@@ -93,11 +92,11 @@ module _ (values : List Float) (lower upper : Level) (dx dy : ℕ) (lines links 
     lower-marked = marked;
   }
 
-  pub lines-short : length lines < band_open_words dx (peak L dx dy) (peak U dx dy) → BandPassed values lower upper dx dy lines links (pass-is.Refused OpenShort) lines links marks
+  pub lines-short : length lines < band_open_words dx (peak L dx dy) (peak U dx dy) → BandPassed values lower upper dx dy lines links (Err OpenShort) lines links marks
   lines-short h = by-refusal OpenShort (unfold band_verdict after_grid in rw (lt-ltb (length lines) (band_open_words dx (peak L dx dy) (peak U dx dy)) h))
 
   module _ (h : band_open_words dx (peak L dx dy) (peak U dx dy) ≤ length lines) where
-    pub links-short : length links < band_link_words (segment_count L dx dy) (segment_count U dx dy) → BandPassed values lower upper dx dy lines links (pass-is.Refused LinksShort) lines links marks
+    pub links-short : length links < band_link_words (segment_count L dx dy) (segment_count U dx dy) → BandPassed values lower upper dx dy lines links (Err LinksShort) lines links marks
     links-short k =
         by-refusal LinksShort
         (unfold band_verdict after_grid in rw (le-ltb (length lines) (band_open_words dx (peak L dx dy) (peak U dx dy)) h, lt-ltb (length links) (band_link_words (segment_count L dx dy) (segment_count U dx dy)) k))
@@ -111,7 +110,7 @@ module _ (values : List Float) (lower upper : Level) (dx dy : ℕ) (lines links 
           → tables_of lines₁ links₁ p ≡ (run_after L dx (run_over lines links) dy (suc dx)).tables
           → tables_of lines₂ links₂ q ≡ (run_after U dx (run_over lines₁ links₁) dy (suc dx)).tables
           → BandPassed values lower upper dx dy lines links
-          (pass-is.Done (record {
+          (Ok (record {
             lower_segments = segment_count L dx dy;
             lower_rings = p.rings;
             upper_segments = segment_count U dx dy;
@@ -121,7 +120,7 @@ module _ (values : List Float) (lower upper : Level) (dx dy : ℕ) (lines links 
           })) lines₂ links₂ marks
       unfolding band_passed band_drawing pass_table
       done p q lines₁ links₁ lines₂ links₂ e f = record {
-        answers = ap pass-is.Done drawing-is ∙ ap (λ (v : Verdict). band_passed v L U dx dy last) (sym is-passes);
+        answers = ap Ok drawing-is ∙ ap (λ (v : Verdict). band_passed v L U dx dy last) (sym is-passes);
         lines_are = ap (λ (t : Tables). t.lines) after ∙ ap (λ (v : Verdict). pass_table v lines last.lines) (sym is-passes);
         links-are = ap (λ (t : Tables). t.links) after ∙ ap (λ (v : Verdict). pass_table v links last.links) (sym is-passes);
         lower-marked = marked;

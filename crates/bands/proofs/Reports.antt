@@ -18,20 +18,16 @@ use Rattle.machine.specs.Machine.{Tables}
 use Rattle.packing.specs.Cleared.{cleared}
 use Rattle.packing.proofs.Laws.{cleared-is-zeroed}
 use Rattle.grid.specs.Grid.{Sized}
-use Rattle.grid.specs.declared.GridFit.{GridFit}
-use Rattle.grid.specs.declared.GridFit.TheVariants as fit_is
 use Rattle.isoringbuilder.specs.Verdict.{Verdict, refused, passes, after_grid}
 use Rattle.isoringbuilder.specs.Answers.{work_after}
 use Rattle.isoringbuilder.specs.Pass.{stitched_tables, pass_table}
 use Rattle.isoringbuilder.specs.declared.SecondReport.{SecondReport}
-use Rattle.isoringbuilder.specs.declared.SecondReport.TheVariants as second_is
 use Rattle.bands.specs.Bands.{band_verdict, band_reported, ReportedOver}
 use Rattle.bands.specs.Passing.{after_upper, band_drawing, band_passed, BandPassed}
 use Rattle.bands.specs.declared.BandDrawing.{BandDrawing}
-use Rattle.bands.specs.declared.BandPass.{BandPass}
-use Rattle.bands.specs.declared.BandPass.TheVariants as pass-is
 use Rattle.bands.proofs.Stitched.{StitchedOver, few-segments, few-rings}
 use Rattle.bands.proofs.Passes.{open-needs, link-needs, first-pass, second-pass}
+use Rattle.std.specs.Prelude.{Result, Ok, Err}
 
 -- two tests that both pass
 pub both-fit : (low high : Refusal) (m need n need' : ℕ) → cond (ltb m need) (refused low) (cond (ltb n need') (refused high) passes) ≡ passes → (need ≤ m) × (need' ≤ n)
@@ -43,9 +39,9 @@ both-fit low high m need n need' e = by (ltb m need) (ltb n need') refl refl e
     by false false ea eb k = (ltb-false m need ea, ltb-false n need' eb)
 
 -- a report of a refused fit
-pub fit_refused : (fit : GridFit) (why : Refusal) → fit ≡ fit_is.Refused why → (L U : Sheet) (dx dy : ℕ) (lines links : List ℕ) → ReportedOver fit L U dx dy lines links (second_is.Refused why) lines links
+pub fit_refused : (fit : Result (Unit {0}) Refusal) (why : Refusal) → fit ≡ Err why → (L U : Sheet) (dx dy : ℕ) (lines links : List ℕ) → ReportedOver fit L U dx dy lines links (Err why) lines links
 unfolding band_verdict after_grid band_reported work_after
-fit_refused fit why e L U dx dy lines links = subst (λ (f : GridFit). ReportedOver f L U dx dy lines links (second_is.Refused why) lines links) (sym e) (record { answers = refl; lines_are = refl; links-are = refl })
+fit_refused fit why e L U dx dy lines links = subst (λ (f : Result (Unit {0}) Refusal). ReportedOver f L U dx dy lines links (Err why) lines links) (sym e) (record { answers = refl; lines_are = refl; links-are = refl })
 
 module _ (values : List Float) (lower upper : Level) (dx dy : ℕ) (lines links : List ℕ) where
   abbrev L : Sheet
@@ -55,13 +51,13 @@ module _ (values : List Float) (lower upper : Level) (dx dy : ℕ) (lines links 
   U = terrain (above_at upper) values dx dy
 
   abbrev verdict : Verdict
-  verdict = band_verdict fit_is.Fits L U dx dy (length lines) (length links)
+  verdict = band_verdict (Ok tt) L U dx dy (length lines) (length links)
 
   abbrev last : Tables
   last = after_upper L U dx dy lines links
 
   pub record BandDone (drawing : BandDrawing) (lines' links' : List ℕ) : Type 0 where
-    pub is-passes : band_verdict fit_is.Fits (terrain (above_at lower) values dx dy) (terrain (above_at upper) values dx dy) dx dy (length lines) (length links) ≡ passes
+    pub is-passes : band_verdict (Ok tt) (terrain (above_at lower) values dx dy) (terrain (above_at upper) values dx dy) dx dy (length lines) (length links) ≡ passes
     pub is-drawing : drawing ≡ band_drawing (terrain (above_at lower) values dx dy) (terrain (above_at upper) values dx dy) dx dy
         (after_upper (terrain (above_at lower) values dx dy) (terrain (above_at upper) values dx dy) dx dy lines links)
     pub lines_are : lines' ≡ (after_upper (terrain (above_at lower) values dx dy) (terrain (above_at upper) values dx dy) dx dy lines links).lines
@@ -69,30 +65,30 @@ module _ (values : List Float) (lower upper : Level) (dx dy : ℕ) (lines links 
     pub lines_fit : band_open_words dx (peak (terrain (above_at lower) values dx dy) dx dy) (peak (terrain (above_at upper) values dx dy) dx dy) ≤ length lines
     pub links-fit : band_link_words (segment_count (terrain (above_at lower) values dx dy) dx dy) (segment_count (terrain (above_at upper) values dx dy) dx dy) ≤ length links
 
-  pub band-done : (answer : BandPass) (drawing : BandDrawing) → answer ≡ pass-is.Done drawing → (lines' links' marks' : List ℕ) → BandPassed values lower upper dx dy lines links answer lines' links' marks'
+  pub band-done : (answer : Result BandDrawing Refusal) (drawing : BandDrawing) → answer ≡ Ok drawing → (lines' links' marks' : List ℕ) → BandPassed values lower upper dx dy lines links answer lines' links' marks'
       → BandDone drawing lines' links'
   unfolding band_passed pass_table
   band-done answer drawing is lines' links' marks' k = by verdict refl (sym is ∙ k.answers) k.lines_are k.links-are
     where
-      by : (v : Verdict) → verdict ≡ v → pass-is.Done drawing ≡ band_passed v L U dx dy last → lines' ≡ pass_table v lines last.lines → links' ≡ pass_table v links last.links → BandDone drawing lines' links'
+      by : (v : Verdict) → verdict ≡ v → Ok drawing ≡ band_passed v L U dx dy last → lines' ≡ pass_table v lines last.lines → links' ≡ pass_table v links last.links → BandDone drawing lines' links'
       by (refused why) e a b c = absurd (let z : ◌≡◌ {A = ℕ} 0 1 = cc in omega arith)
       by passes e a b c =
           let room : (band_open_words dx (peak L dx dy) (peak U dx dy) ≤ length lines) × (band_link_words (segment_count L dx dy) (segment_count U dx dy) ≤ length links) =
           both-fit OpenShort LinksShort (length lines) (band_open_words dx (peak L dx dy) (peak U dx dy)) (length links) (band_link_words (segment_count L dx dy) (segment_count U dx dy)) (unfold band_verdict after_grid in e) in
           record { is-passes = e; is-drawing = cc; lines_are = b; links-are = c; lines_fit = room.0; links-fit = room.1 }
 
-  pub band-refused : (answer : BandPass) (why : Refusal) → answer ≡ pass-is.Refused why → (lines' links' marks' : List ℕ) → BandPassed values lower upper dx dy lines links answer lines' links' marks'
+  pub band-refused : (answer : Result BandDrawing Refusal) (why : Refusal) → answer ≡ Err why → (lines' links' marks' : List ℕ) → BandPassed values lower upper dx dy lines links answer lines' links' marks'
       → (verdict ≡ refused why) × (lines' ≡ lines) × (links' ≡ links)
   unfolding band_passed pass_table
   band-refused answer why is lines' links' marks' k = by verdict refl (sym is ∙ k.answers) k.lines_are k.links-are
     where
-      by : (v : Verdict) → verdict ≡ v → pass-is.Refused why ≡ band_passed v L U dx dy last → lines' ≡ pass_table v lines last.lines → links' ≡ pass_table v links last.links
+      by : (v : Verdict) → verdict ≡ v → Err why ≡ band_passed v L U dx dy last → lines' ≡ pass_table v lines last.lines → links' ≡ pass_table v links last.links
           → (verdict ≡ refused why) × (lines' ≡ lines) × (links' ≡ links)
       by (refused other) e a b c = let same : other ≡ why = cc in (e ∙ ap refused same, b, c)
       by passes e a b c = absurd (let z : ◌≡◌ {A = ℕ} 0 1 = cc in omega arith)
 
-  pub report-refused : (answer : BandPass) (why : Refusal) → answer ≡ pass-is.Refused why → (lines' links' marks' : List ℕ) → BandPassed values lower upper dx dy lines links answer lines' links' marks'
-      → ReportedOver fit_is.Fits L U dx dy lines links (second_is.Refused why) lines' links'
+  pub report-refused : (answer : Result BandDrawing Refusal) (why : Refusal) → answer ≡ Err why → (lines' links' marks' : List ℕ) → BandPassed values lower upper dx dy lines links answer lines' links' marks'
+      → ReportedOver (Ok tt) L U dx dy lines links (Err why) lines' links'
   unfolding band_reported work_after
   report-refused answer why is lines' links' marks' k =
       let facts = band-refused answer why is lines' links' marks' k in
@@ -144,7 +140,7 @@ module _ (values : List Float) (lower upper : Level) (dx dy : ℕ) (lines links 
 
     pub report-done : (segments rings points : ℕ) → segments ≡ max drawing.lower_segments drawing.upper_segments → rings ≡ drawing.lower_rings + drawing.upper_rings
         → points ≡ drawing.lower_segments + drawing.upper_segments + rings → (lines₁ links₁ : List ℕ) → lines₁ ≡ cleared lines' (open_words dx drawing.peak) → links₁ ≡ cleared links' (link_words segments)
-        → ReportedOver fit_is.Fits L U dx dy lines links (second_is.Room segments rings drawing.peak points) lines₁ links₁
+        → ReportedOver (Ok tt) L U dx dy lines links (Ok (record { segments = segments; rings = rings; peak = drawing.peak; points = points })) lines₁ links₁
     unfolding band_reported work_after point_count band_drawing
     report-done segments rings points es er ep lines₁ links₁ el ek = record {
       answers = room ∙ ap (λ (v : Verdict). band_reported v L U dx dy) (sym done.is-passes);
@@ -158,13 +154,13 @@ module _ (values : List Float) (lower upper : Level) (dx dy : ℕ) (lines links 
           ∙ ap (λ (v : Verdict). work_after v (band_link_words (segment_count L dx dy) (segment_count U dx dy)) links) (sym done.is-passes);
     }
       where
-        of : BandDrawing → SecondReport
-        of d = second_is.Room (max d.lower_segments d.upper_segments) (d.lower_rings + d.upper_rings) d.peak (d.lower_segments + d.lower_rings + (d.upper_segments + d.upper_rings))
+        of : BandDrawing → Result SecondReport Refusal
+        of d = Ok (record { segments = max d.lower_segments d.upper_segments; rings = d.lower_rings + d.upper_rings; peak = d.peak; points = d.lower_segments + d.lower_rings + (d.upper_segments + d.upper_rings) })
 
-        here : second_is.Room segments rings drawing.peak points ≡ of drawing
+        here : Ok (record { segments = segments; rings = rings; peak = drawing.peak; points = points }) ≡ of drawing
         here =
             let sum : points ≡ drawing.lower_segments + drawing.lower_rings + (drawing.upper_segments + drawing.upper_rings) = omega arith in
             rw (es, er, sum)
 
-        room : second_is.Room segments rings drawing.peak points ≡ of (band_drawing L U dx dy last)
+        room : Ok (record { segments = segments; rings = rings; peak = drawing.peak; points = points }) ≡ of (band_drawing L U dx dy last)
         room = here ∙ ap of done.is-drawing

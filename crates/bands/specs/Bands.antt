@@ -1,6 +1,6 @@
 -- A band's verdicts, reports, and answer and tables at exit: the band of thresholds k and k + 1 of the list, under one rule. Refusals 1 to 6 change nothing; 7
 -- and 8 spare the outputs and, like success, zero the needed words of both work tables. Assumes nothing.
-use Rattle.std.specs.Prelude.{◌≡◌, cond, List, ℕ, suc, ◌+◌, max, ltb, Float, length, get_or}
+use Rattle.std.specs.Prelude.{◌≡◌, cond, List, ℕ, suc, ◌+◌, max, ltb, Float, length, get_or, Result, Ok, Err}
 use Rattle.std.specs.Float.{nan}
 use Rattle.error.specs.declared.Refusal.TheVariants.{FewThresholds, NoPair, OpenShort, LinksShort, PointsShort, DirectoryShort}
 use Rattle.scope.specs.declared.Rule.{Rule}
@@ -11,26 +11,20 @@ use Rattle.scope.specs.Room.{point_count, band_open_words, band_link_words, band
 use Rattle.scope.specs.Tables.{band_points, band_records}
 use Rattle.grid.specs.Grid.{grid_fit}
 use Rattle.scan.specs.Report.{report_for}
-use Rattle.grid.specs.declared.GridFit.{GridFit}
-use Rattle.grid.specs.declared.GridFit.TheVariants as fit_is
 use Rattle.scan.specs.declared.FirstReport.{FirstReport}
-use Rattle.scan.specs.declared.FirstReport.TheVariants as first-is
-use Rattle.bands.specs.declared.BandFit.{BandFit}
-use Rattle.bands.specs.declared.BandFit.TheVariants as pair_is
 use Rattle.isoringbuilder.specs.Verdict.{Verdict, refused, passes, after_grid}
 use Rattle.isoringbuilder.specs.Answers.{work_after, output_after}
 use Rattle.isoringbuilder.specs.declared.SecondReport.{SecondReport}
-use Rattle.isoringbuilder.specs.declared.SecondReport.TheVariants as second_is
-use Rattle.isoringbuilder.specs.declared.Built.{Built}
-use Rattle.isoringbuilder.specs.declared.Built.TheVariants as built-is
+use Rattle.error.specs.declared.Refusal.{Refusal}
+use Rattle.bands.specs.declared.BandLevels.{BandLevels}
 
 -- numbers 3 and 4, where the grid fits: a list of under two thresholds, and one in which k + 1 is no place
-unfoldable pub list_fit : GridFit → ℕ → ℕ → GridFit
-list_fit (fit_is.Refused why) count k = fit_is.Refused why
-list_fit fit_is.Fits count k = cond (ltb count 2) (fit_is.Refused FewThresholds) (cond (ltb (suc k) count) fit_is.Fits (fit_is.Refused NoPair))
+unfoldable pub list_fit : Result (Unit {0}) Refusal → ℕ → ℕ → Result (Unit {0}) Refusal
+list_fit (Err why) count k = Err why
+list_fit (Ok tt) count k = cond (ltb count 2) (Err FewThresholds) (cond (ltb (suc k) count) (Ok tt) (Err NoPair))
 
 -- numbers 1 to 4: the values' count, the sides, the thresholds' count and k
-unfoldable pub band_fit : ℕ → ℕ → ℕ → ℕ → ℕ → GridFit
+unfoldable pub band_fit : ℕ → ℕ → ℕ → ℕ → ℕ → Result (Unit {0}) Refusal
 band_fit count dx dy thresholds k = list_fit (grid_fit count dx dy) thresholds k
 
 -- the level of a threshold of the list, under the rule
@@ -38,9 +32,9 @@ abbrev pub level_at : List Float → Rule → ℕ → Level
 level_at thresholds rule k = record { threshold = get_or thresholds k nan; rule = rule }
 
 -- the levels of the lower threshold, k, and the upper, k + 1
-unfoldable pub fit_pair : GridFit → List Float → Rule → ℕ → BandFit
-fit_pair (fit_is.Refused why) thresholds rule k = pair_is.Refused why
-fit_pair fit_is.Fits thresholds rule k = pair_is.Fits (level_at thresholds rule k) (level_at thresholds rule (suc k))
+unfoldable pub fit_pair : Result (Unit {0}) Refusal → List Float → Rule → ℕ → Result BandLevels Refusal
+fit_pair (Err why) thresholds rule k = Err why
+fit_pair (Ok tt) thresholds rule k = Ok (record { lower = level_at thresholds rule k; upper = level_at thresholds rule (suc k) })
 
 -- and their sheets
 abbrev pub lower_sheet : List Float → List Float → Rule → ℕ → ℕ → ℕ → Sheet
@@ -50,7 +44,7 @@ abbrev pub upper_sheet : List Float → List Float → Rule → ℕ → ℕ → 
 upper_sheet values thresholds rule k dx dy = terrain (above_at (level_at thresholds rule (suc k))) values dx dy
 
 -- numbers 5 and 6 too, of a band between two sheets
-unfoldable pub band_verdict : GridFit → Sheet → Sheet → ℕ → ℕ → ℕ → ℕ → Verdict
+unfoldable pub band_verdict : Result (Unit {0}) Refusal → Sheet → Sheet → ℕ → ℕ → ℕ → ℕ → Verdict
 band_verdict fit L U dx dy lines links =
     after_grid fit
     (cond (ltb lines (band_open_words dx (peak L dx dy) (peak U dx dy))) (refused OpenShort)
@@ -66,34 +60,34 @@ unfoldable pub band_outputs : Sheet → Sheet → ℕ → ℕ → ℕ → ℕ �
 band_outputs L U dx dy points directory = band_room (segment_count L dx dy) (ring_count L dx dy) (segment_count U dx dy) (ring_count U dx dy) points directory
 
 -- the first report: the larger S and the larger H
-unfoldable pub band_room_of : Sheet → Sheet → ℕ → ℕ → FirstReport
-band_room_of L U dx dy = first-is.Room (max (segment_count L dx dy) (segment_count U dx dy)) (max (peak L dx dy) (peak U dx dy))
+unfoldable pub band_room_of : Sheet → Sheet → ℕ → ℕ → Result FirstReport Refusal
+band_room_of L U dx dy = Ok (record { segments = max (segment_count L dx dy) (segment_count U dx dy); peak = max (peak L dx dy) (peak U dx dy) })
 
-unfoldable pub band_first_report : List Float → List Float → Rule → ℕ → ℕ → ℕ → FirstReport
+unfoldable pub band_first_report : List Float → List Float → Rule → ℕ → ℕ → ℕ → Result FirstReport Refusal
 band_first_report values thresholds rule k dx dy =
     report_for (band_fit (length values) dx dy (length thresholds) k) (band_room_of (lower_sheet values thresholds rule k dx dy) (upper_sheet values thresholds rule k dx dy) dx dy)
 
 -- the second report: the larger S, the sum of R, the larger H, and the sum of the points
-unfoldable pub band_reported : Verdict → Sheet → Sheet → ℕ → ℕ → SecondReport
-band_reported (refused why) L U dx dy = second_is.Refused why
+unfoldable pub band_reported : Verdict → Sheet → Sheet → ℕ → ℕ → Result SecondReport Refusal
+band_reported (refused why) L U dx dy = Err why
 band_reported passes L U dx dy =
-    second_is.Room (max (segment_count L dx dy) (segment_count U dx dy)) (ring_count L dx dy + ring_count U dx dy) (max (peak L dx dy) (peak U dx dy))
+    ??second_is.Room (max (segment_count L dx dy) (segment_count U dx dy)) (ring_count L dx dy + ring_count U dx dy) (max (peak L dx dy) (peak U dx dy))
     (point_count (segment_count L dx dy) (ring_count L dx dy) + point_count (segment_count U dx dy) (ring_count U dx dy))
 
 -- the number of rings
-unfoldable pub band_built : Verdict → Verdict → Sheet → Sheet → ℕ → ℕ → Built
-band_built (refused why) verdict L U dx dy = built-is.Refused why
-band_built passes (refused why) L U dx dy = built-is.Refused why
-band_built passes passes L U dx dy = built-is.Rings (ring_count L dx dy + ring_count U dx dy)
+unfoldable pub band_built : Verdict → Verdict → Sheet → Sheet → ℕ → ℕ → Result ℕ Refusal
+band_built (refused why) verdict L U dx dy = Err why
+band_built passes (refused why) L U dx dy = Err why
+band_built passes passes L U dx dy = Ok (ring_count L dx dy + ring_count U dx dy)
 
 -- what a band's second report answers and leaves, by the first four tests and the two sheets
-pub record ReportedOver (fit : GridFit) (L U : Sheet) (dx dy : ℕ) (lines links : List ℕ) (answer : SecondReport) (lines' links' : List ℕ) : Type 0 where
+pub record ReportedOver (fit : Result (Unit {0}) Refusal) (L U : Sheet) (dx dy : ℕ) (lines links : List ℕ) (answer : Result SecondReport Refusal) (lines' links' : List ℕ) : Type 0 where
   pub answers : answer ≡ band_reported (band_verdict fit L U dx dy (length lines) (length links)) L U dx dy
   pub lines_are : lines' ≡ work_after (band_verdict fit L U dx dy (length lines) (length links)) (band_open_words dx (peak L dx dy) (peak U dx dy)) lines
   pub links-are : links' ≡ work_after (band_verdict fit L U dx dy (length lines) (length links)) (band_link_words (segment_count L dx dy) (segment_count U dx dy)) links
 
 -- what isobands answers and leaves, by the first four tests and the two sheets
-pub record BuiltOver (fit : GridFit) (L U : Sheet) (dx dy : ℕ) (lines links points directory : List ℕ) (answer : Built) (lines' links' points' directory' : List ℕ) : Type 0 where
+pub record BuiltOver (fit : Result (Unit {0}) Refusal) (L U : Sheet) (dx dy : ℕ) (lines links points directory : List ℕ) (answer : Result ℕ Refusal) (lines' links' points' directory' : List ℕ) : Type 0 where
   pub answers : answer ≡ band_built (band_verdict fit L U dx dy (length lines) (length links)) (band_outputs L U dx dy (length points) (length directory)) L U dx dy
   pub lines_are : lines' ≡ work_after (band_verdict fit L U dx dy (length lines) (length links)) (band_open_words dx (peak L dx dy) (peak U dx dy)) lines
   pub links-are : links' ≡ work_after (band_verdict fit L U dx dy (length lines) (length links)) (band_link_words (segment_count L dx dy) (segment_count U dx dy)) links
@@ -103,10 +97,10 @@ pub record BuiltOver (fit : GridFit) (L U : Sheet) (dx dy : ℕ) (lines links po
       (band_records (rings_of L dx dy) (rings_of U dx dy)) directory
 
 -- both on every input: a list of thresholds, the rule for all of them, and k
-abbrev pub BandReported : List Float → List Float → Rule → ℕ → ℕ → ℕ → List ℕ → List ℕ → SecondReport → List ℕ → List ℕ → Type 0
+abbrev pub BandReported : List Float → List Float → Rule → ℕ → ℕ → ℕ → List ℕ → List ℕ → Result SecondReport Refusal → List ℕ → List ℕ → Type 0
 BandReported values thresholds rule k dx dy =
     ReportedOver (band_fit (length values) dx dy (length thresholds) k) (lower_sheet values thresholds rule k dx dy) (upper_sheet values thresholds rule k dx dy) dx dy
 
-abbrev pub BandBuilt : List Float → List Float → Rule → ℕ → ℕ → ℕ → List ℕ → List ℕ → List ℕ → List ℕ → Built → List ℕ → List ℕ → List ℕ → List ℕ → Type 0
+abbrev pub BandBuilt : List Float → List Float → Rule → ℕ → ℕ → ℕ → List ℕ → List ℕ → List ℕ → List ℕ → Result ℕ Refusal → List ℕ → List ℕ → List ℕ → List ℕ → Type 0
 BandBuilt values thresholds rule k dx dy =
     BuiltOver (band_fit (length values) dx dy (length thresholds) k) (lower_sheet values thresholds rule k dx dy) (upper_sheet values thresholds rule k dx dy) dx dy

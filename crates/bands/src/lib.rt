@@ -56,19 +56,19 @@ fn has_pair(thresholds: usize, k: usize) -> bool
 }
 
 // Whether a band can be drawn: the grid fits, there are two thresholds or more, and k + 1 is a place among them. Else the lowest refusal that applies.
-fn band_fit(count: usize, dx: usize, dy: usize, thresholds: usize, k: usize) -> GridFit
+fn band_fit(count: usize, dx: usize, dy: usize, thresholds: usize, k: usize) -> Result<(), Refusal>
     ensures { result ≡ band_fit count dx dy thresholds k }
 {
     match grid_fit(count, dx, dy) {
-        GridFit::Refused(refusal) => GridFit::Refused(refusal),
-        GridFit::Fits => {
+        Err(refusal) => Err(refusal),
+        Ok(()) => {
             if thresholds < 2 {
-                return GridFit::Refused(Refusal::FewThresholds);
+                return Err(Refusal::FewThresholds);
             }
             if has_pair(thresholds, k) {
-                return GridFit::Fits;
+                return Ok(());
             }
-            GridFit::Refused(Refusal::NoPair)
+            Err(Refusal::NoPair)
         }
     }
 }
@@ -81,12 +81,12 @@ pub fn band_pair(
     thresholds: &[f64],
     rule: Rule,
     k: usize,
-) -> BandFit
+) -> Result<BandLevels, Refusal>
     ensures { result ≡ fit_pair (band_fit count dx dy (length thresholds.now) k) thresholds.now rule k }
 {
     match band_fit(count, dx, dy, thresholds.len(), k) {
-        GridFit::Refused(refusal) => BandFit::Refused(refusal),
-        GridFit::Fits => {
+        Err(refusal) => Err(refusal),
+        Ok(()) => {
             let below = Level {
                 threshold: thresholds[k],
                 rule,
@@ -117,7 +117,7 @@ fn counts_of(values: &[f64], level: Level, dx: usize, dy: usize) -> Counts
 }
 
 // The larger segment count and the larger peak of two levels, for a grid that fits.
-fn room_of(values: &[f64], lower: Level, upper: Level, dx: usize, dy: usize) -> FirstReport
+fn room_of(values: &[f64], lower: Level, upper: Level, dx: usize, dy: usize) -> Result<FirstReport, Refusal>
     requires { grid_fit (length values.now) dx dy ≡ GridFit.Fits }
     ensures { result ≡ band_room_of (terrain (above_at lower) values.now dx dy) (terrain (above_at upper) values.now dx dy) dx dy }
 {
@@ -136,11 +136,11 @@ pub fn band_first_report(
     k: usize,
     dx: usize,
     dy: usize,
-) -> FirstReport
+) -> Result<FirstReport, Refusal>
     ensures { result ≡ band_first_report values.now thresholds.now rule k dx dy }
 {
     match band_pair(values.len(), dx, dy, thresholds, rule, k) {
-        BandFit::Refused(refusal) => FirstReport::Refused(refusal),
+        Err(refusal) => Err(refusal),
         BandFit::Fits(lower, upper) => room_of(values, lower, upper, dx, dy),
     }
 }
@@ -156,7 +156,7 @@ pub fn band_pass(
     marks: &mut [u8; TILES],
     lines: &mut [u32],
     links: &mut [u32],
-) -> BandPass
+) -> Result<BandDrawing, Refusal>
     requires { (grid_fit (length values.now) dx dy ≡ GridFit.Fits) × (length marks.old ≡ 4096) }
     ensures { BandPassed values.now lower upper dx dy lines.old links.old result
         lines.new links.new marks.new }
@@ -168,17 +168,17 @@ pub fn band_pass(
     let upper_segments = above.segments;
     let peak = larger(below.peak, above.peak);
     if lines.len() < open_words(dx, peak) {
-        return BandPass::Refused(Refusal::OpenShort);
+        return Err(Refusal::OpenShort);
     }
     if links.len() < link_words(larger(lower_segments, upper_segments)) {
-        return BandPass::Refused(Refusal::LinksShort);
+        return Err(Refusal::LinksShort);
     }
     let first = stitch(values, lower, dx, dy, marks, lines, links);
     let lower_rings = first.rings;
     let second = stitch(values, upper, dx, dy, &upper_marks, lines, links);
     let upper_rings = second.rings;
     let head = second.head;
-    BandPass::Done(BandDrawing {
+    Ok(BandDrawing {
         lower_segments,
         lower_rings,
         upper_segments,
@@ -197,15 +197,15 @@ fn report_over(
     dy: usize,
     lines: &mut [u32],
     links: &mut [u32],
-) -> SecondReport
+) -> Result<SecondReport, Refusal>
     requires { grid_fit (length values.now) dx dy ≡ GridFit.Fits }
     ensures { ReportedOver GridFit.Fits (terrain (above_at lower) values.now dx dy) (terrain (above_at upper) values.now dx dy) dx dy
         lines.old links.old result lines.new links.new }
 {
     let mut marks = [0u8; TILES];
     match band_pass(values, lower, upper, dx, dy, &mut marks, lines, links) {
-        BandPass::Refused(refusal) => SecondReport::Refused(refusal),
-        BandPass::Done(drawing) => {
+        Err(refusal) => Err(refusal),
+        Ok(drawing) => {
             let peak = drawing.peak;
             let segments = larger(drawing.lower_segments, drawing.upper_segments);
             let rings = drawing.lower_rings + drawing.upper_rings;
@@ -233,11 +233,11 @@ pub fn band_second_report(
     dy: usize,
     lines: &mut [u32],
     links: &mut [u32],
-) -> SecondReport
+) -> Result<SecondReport, Refusal>
     ensures { BandReported values.now thresholds.now rule k dx dy lines.old links.old result lines.new links.new }
 {
     match band_pair(values.len(), dx, dy, thresholds, rule, k) {
-        BandFit::Refused(refusal) => SecondReport::Refused(refusal),
+        Err(refusal) => Err(refusal),
         BandFit::Fits(lower, upper) => report_over(values, lower, upper, dx, dy, lines, links),
     }
 }
@@ -288,7 +288,7 @@ pub fn band_pack(
     links: &mut [u32],
     points: &mut [u16],
     directory: &mut [u32],
-) -> Built
+) -> Result<u32, Refusal>
     requires { Sized (length values.now) dx dy × Marked (terrain (above_at lower) values.now dx dy) (suc dy) marks.now
         × (drawing.lower_rings + drawing.upper_rings < 2 ^ 32) }
     ensures { BandPacked (terrain (above_at lower) values.now dx dy) dx dy drawing lines.old links.old points.old directory.old result
@@ -301,11 +301,11 @@ pub fn band_pack(
     let head = drawing.head;
     let words = point_words(lower_segments, lower_rings);
     if points.len() < band_point_words(drawing) {
-        return Built::Refused(Refusal::PointsShort);
+        return Err(Refusal::PointsShort);
     }
     let rings = lower_rings + upper_rings;
     if directory.len() < RECORD_STRIDE * (rings as usize) {
-        return Built::Refused(Refusal::DirectoryShort);
+        return Err(Refusal::DirectoryShort);
     }
     let records = SHORT_STRIDE * (lower_rings as usize);
     write_behind(
@@ -321,5 +321,5 @@ pub fn band_pack(
     let again = stitch(values, lower, dx, dy, marks, lines, links);
     let first = again.head;
     write_rings(links, dx as u32, first, lower_segments, points, directory);
-    Built::Rings(rings)
+    Ok(rings)
 }

@@ -18,11 +18,8 @@ use Rattle.readable.proofs.Packed.{Fit}
 use Rattle.readable.proofs.Laws.{rings-fit, contour-passes, band-passes}
 use Rattle.readable.proofs.Text.{Told, told}
 use Rattle.grid.specs.Grid.{Sized, grid_fit}
-use Rattle.grid.specs.declared.GridFit.TheVariants as fit_is
 use Rattle.grid.proofs.Laws.{a-grid-that-fits-is-sized}
 use Rattle.isoringbuilder.specs.Answers.{above}
-use Rattle.isoringbuilder.specs.declared.Built.{Built}
-use Rattle.isoringbuilder.specs.declared.Built.TheVariants as built-is
 use Rattle.bands.specs.Bands.{level_at, lower_sheet, upper_sheet, BandBuilt}
 use Rattle.bands.proofs.Stitched.{few-segments}
 use Rattle.contourbuilder.specs.Contours.{ContoursBuilt}
@@ -32,6 +29,8 @@ use Rattle.contour.proofs.Results.{given}
 use Rattle.contour.proofs.Theorems.{contours-constructed}
 use Rattle.contour.proofs.Fits.{band-fits-exactly}
 use Rattle.contour.proofs.Bands.{isobands-constructed}
+use Rattle.std.specs.Prelude.{Result, Ok}
+use Rattle.error.specs.declared.Refusal.{Refusal}
 
 -- n rings that the writer takes, each of which stands in the text as often as it should
 pub record Checked (points directory : List ℕ) (n : ℕ) : Type 0 where
@@ -44,7 +43,7 @@ unfolding no_owner
 checked points directory n few passes = record { few = few; passes-nine = passes; text-has = told points directory n (omega arith) passes }
 
 -- the rings of a grid that fits
-module _ (values : List Float) (level : Level) (dx dy : ℕ) (fits : grid_fit (length values) dx dy ≡ fit_is.Fits) where
+module _ (values : List Float) (level : Level) (dx dy : ℕ) (fits : grid_fit (length values) dx dy ≡ Ok tt) where
   sized : Sized (length values) dx dy
   sized = a-grid-that-fits-is-sized (length values) dx dy fits
 
@@ -56,8 +55,8 @@ module _ (values : List Float) (level : Level) (dx dy : ℕ) (fits : grid_fit (l
 
 -- the tables of a contour
 module _ (values : List Float) (level : Level) (dx dy : ℕ) (lines links points directory : List ℕ) where
-  pub contours-checked : {answer : Built} {lines' links' points' directory' : List ℕ} → ContoursBuilt values level dx dy lines links points directory answer lines' links' points' directory'
-      → (n : ℕ) → answer ≡ built-is.Rings n → Checked points' directory' n
+  pub contours-checked : {answer : Result ℕ Refusal} {lines' links' points' directory' : List ℕ} → ContoursBuilt values level dx dy lines links points directory answer lines' links' points' directory'
+      → (n : ℕ) → answer ≡ Ok n → Checked points' directory' n
   unfolding written ring_count
   contours-checked {answer} {lines'} {links'} {points'} {directory'} b n is =
       let g = given n is (contours-constructed values level dx dy lines links points directory b) in
@@ -66,8 +65,8 @@ module _ (values : List Float) (level : Level) (dx dy : ℕ) (lines links points
 
 -- the tables of a band
 module _ (values thresholds : List Float) (rule : Rule) (k dx dy : ℕ) (lines links points directory : List ℕ) where
-  pub isobands-checked : {answer : Built} {lines' links' points' directory' : List ℕ} → BandBuilt values thresholds rule k dx dy lines links points directory answer lines' links' points' directory'
-      → (n : ℕ) → answer ≡ built-is.Rings n → Checked points' directory' n
+  pub isobands-checked : {answer : Result ℕ Refusal} {lines' links' points' directory' : List ℕ} → BandBuilt values thresholds rule k dx dy lines links points directory answer lines' links' points' directory'
+      → (n : ℕ) → answer ≡ Ok n → Checked points' directory' n
   unfolding written ring_count
   isobands-checked {answer} {lines'} {links'} {points'} {directory'} b n is =
       let g = given n is (isobands-constructed b) in

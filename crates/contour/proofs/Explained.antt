@@ -23,11 +23,8 @@ use Rattle.scope.specs.Tables.{written, line_points}
 use Rattle.scope.specs.GeoJson.{first_at, count_at, class_at, owner_at}
 use Rattle.laws.proofs.Rings.{RingLaw, OddSum, Within}
 use Rattle.grid.specs.Grid.{grid_fit}
-use Rattle.grid.specs.declared.GridFit.TheVariants as fit_is
 use Rattle.grid.proofs.Laws.{a-grid-that-fits-is-sized, no-columns-are-refused, no-rows-are-refused}
 use Rattle.isoringbuilder.specs.Answers.{above}
-use Rattle.isoringbuilder.specs.declared.Built.{Built}
-use Rattle.isoringbuilder.specs.declared.Built.TheVariants as built-is
 use Rattle.contourbuilder.specs.Contours.{ContoursBuilt}
 use Rattle.contourbuilder.proofs.Sizes.{laws}
 use Rattle.linebuilder.specs.Lines.{LinesBuilt}
@@ -40,20 +37,21 @@ use Rattle.explaining.specs.Fates.{told, fate_told, fate_answer, FateFound}
 use Rattle.explaining.specs.Vertices.{midway, vertex_of_ring, vertex_there, vertex_told, on_grid, vertex_answer}
 use Rattle.explaining.specs.declared.RingFate.{RingFate}
 use Rattle.explaining.specs.declared.RingFate.TheVariants as fate-is
-use Rattle.explaining.specs.declared.VertexAnswer.TheVariants as vertex-is
 use Rattle.explaining.proofs.Drawn.{fate-by-rings, drawn-is-midway}
 use Rattle.contour.proofs.Results.{Given, given}
 use Rattle.contour.proofs.Theorems.{contours_plan, contours-constructed, lines-constructed}
 use Rattle.contour.proofs.Checked.{contours-checked}
+use Rattle.std.specs.Prelude.{Result, Ok, Err}
+use Rattle.error.specs.declared.Refusal.{Refusal}
 
 -- ---- 1. fates
 
 -- the record of ring i has the class and the owner that a fate stands for
-abbrev pub Acted : List ℕ → ℕ → RingFate → Type 0
-Acted directory i fate-is.Polygon = (class_at directory i ≡ 0) × (owner_at directory i ≡ i)
-Acted directory i (fate-is.Hole k d) = (class_at directory i ≡ 1) × (owner_at directory i ≡ k)
-Acted directory i fate-is.Dropped = (class_at directory i ≡ 1) × (owner_at directory i ≡ no_owner)
-Acted directory i (fate-is.Refused why) = ⊥
+abbrev pub Acted : List ℕ → ℕ → Result RingFate Refusal → Type 0
+Acted directory i (Ok fate-is.Polygon) = (class_at directory i ≡ 0) × (owner_at directory i ≡ i)
+Acted directory i (Ok (fate-is.Hole k d)) = (class_at directory i ≡ 1) × (owner_at directory i ≡ k)
+Acted directory i (Ok fate-is.Dropped) = (class_at directory i ≡ 1) × (owner_at directory i ≡ no_owner)
+Acted directory i (Err why) = ⊥
 
 acted : (directory : List ℕ) (i : ℕ) (all : List Line) (ring : Line) (P : ℕ → Type 0) (fate : Fate) → class_at directory i ≡ class_word fate → owner_at directory i ≡ owner_word i fate → OwnedBy P fate
     → Acted directory i (told all ring fate)
@@ -70,7 +68,7 @@ within (x ∷ xs) zero d e h = refl
 within (x ∷ xs) (suc i) d e h = within xs i d e (le_of_suc-le-suc h)
 
 -- a side of a grid that fits is not 0, where one of 0 is refused
-some_of : (count dx dy side : ℕ) → (side ≡ 0 → fit_is.Refused BadSide ≡ grid_fit count dx dy) → grid_fit count dx dy ≡ fit_is.Fits → 1 ≤ side
+some_of : (count dx dy side : ℕ) → (side ≡ 0 → Err BadSide ≡ grid_fit count dx dy) → grid_fit count dx dy ≡ Ok tt → 1 ≤ side
 some_of count dx dy side refused fits = by (dec_lt 0 side)
   where
     by : Dec (0 < side) → 1 ≤ side
@@ -78,8 +76,8 @@ some_of count dx dy side refused fits = by (dec_lt 0 side)
     by (no h) = absurd (let r = refused (omega arith) in let z : ◌≡◌ {A = ℕ} 0 1 = cc in omega arith)
 
 -- a contour that was built
-module _ {values : List Float} {level : Level} {dx dy : ℕ} {lines links points directory : List ℕ} {answer : Built} {lines' links' points' directory' : List ℕ}
-    (b : ContoursBuilt values level dx dy lines links points directory answer lines' links' points' directory') (n : ℕ) (is : answer ≡ built-is.Rings n) where
+module _ {values : List Float} {level : Level} {dx dy : ℕ} {lines links points directory : List ℕ} {answer : Result ℕ Refusal} {lines' links' points' directory' : List ℕ}
+    (b : ContoursBuilt values level dx dy lines links points directory answer lines' links' points' directory') (n : ℕ) (is : answer ≡ Ok n) where
   abbrev rings : List Line
   rings = rings_of (above values level dx dy) dx dy
 
@@ -100,7 +98,7 @@ module _ {values : List Float} {level : Level} {dx dy : ℕ} {lines links points
       (fate-by-rings points' directory' rings (λ k l. (record_of k l).ring-is) (rw counted (contours-checked values level dx dy lines links points directory b n is).passes-nine) i h)
 
   -- a ring's fate is the one by which the build acted
-  pub fate-acted : (i : ℕ) → i < n → {fate : RingFate} → FateFound points' directory' n i fate → Acted directory' i fate
+  pub fate-acted : (i : ℕ) → i < n → {fate : Result RingFate Refusal} → FateFound points' directory' n i fate → Acted directory' i fate
   unfolding fate_told contour_fates contour_classes
   fate-acted i h {fate} found =
       let there : i < length rings = omega (arith, counted) in
@@ -138,7 +136,7 @@ module _ {values : List Float} {level : Level} {dx dy : ℕ} {lines links points
         (drawn-is-midway dx dy (some_of (length values) dx dy dx (no-columns-are-refused (length values) dx dy) stands.fits) (some_of (length values) dx dy dy (no-rows-are-refused (length values) dx dy) stands.fits) (get_or (get_or rings i []) v nowhere) odd inside.0 inside.1)
 
     -- no vertex of the build is refused
-    pub vertex-explained-always : vertex_answer values level.threshold dx dy points' directory' n i v ≡ vertex-is.Moves (vertex_moves values level.threshold dx dy (vertex_of_ring points' directory' i v))
+    pub vertex-explained-always : vertex_answer values level.threshold dx dy points' directory' n i v ≡ Ok (vertex_moves values level.threshold dx dy (vertex_of_ring points' directory' i v))
     unfolding vertex_answer on_grid vertex_told vertex_there
     vertex-explained-always =
         rw (
@@ -150,8 +148,8 @@ module _ {values : List Float} {level : Level} {dx dy : ℕ} {lines links points
         )
 
     -- what is said of it is what contour_lines wrote, smoothed, then placed
-    pub vertex-written : {q : Placing} {lines₂ links₂ : List ℕ} {points₂ : List Float} {directory₂ : List ℕ} {answer₂ : Built} {lines₂' links₂' : List ℕ} {points₂' : List Float} {directory₂' : List ℕ}
-        → LinesBuilt values level dx dy true q lines₂ links₂ points₂ directory₂ answer₂ lines₂' links₂' points₂' directory₂' → (m : ℕ) → answer₂ ≡ built-is.Rings m
+    pub vertex-written : {q : Placing} {lines₂ links₂ : List ℕ} {points₂ : List Float} {directory₂ : List ℕ} {answer₂ : Result ℕ Refusal} {lines₂' links₂' : List ℕ} {points₂' : List Float} {directory₂' : List ℕ}
+        → LinesBuilt values level dx dy true q lines₂ links₂ points₂ directory₂ answer₂ lines₂' links₂' points₂' directory₂' → (m : ℕ) → answer₂ ≡ Ok m
         → VertexAt points₂' (2 * (first_at directory' i + v)) (placed_at q (vertex_by (vertex_of_ring points' directory' i v) (vertex_moves values level.threshold dx dy (vertex_of_ring points' directory' i v)))) nan
     unfolding written line_points line_vertices line_vertex
     vertex-written {q} {lines₂} {links₂} {points₂} {directory₂} l m is₂ =

@@ -11,9 +11,9 @@ use Rattle.error.specs.declared.Refusal.{Refusal}
 use Rattle.error.specs.declared.Refusal.TheVariants.{BadSide, BadDimension}
 use Rattle.scope.specs.Limits.{side_limit}
 use Rattle.grid.specs.Grid.{bad_side, bad_count, grid_fit}
-use Rattle.grid.specs.declared.GridFit.TheVariants as fit_is
 use Rattle.grid.proofs.Laws.{no-columns-are-refused, too-many-columns-are-refused, no-rows-are-refused, too-many-rows-are-refused, a-wrong-count-is-refused, a-right-count-fits}
 use Rattle.contour.proofs.Lowest.{of_three, Early, fit-number}
+use Rattle.std.specs.Prelude.{Ok, Err}
 
 -- a side is 0 or above the limit, or it is neither
 abbrev pub WrongSide : ℕ → Type 0
@@ -40,33 +40,33 @@ module _ (count dx dy : ℕ) where
   pub grid-early : (most : ℕ) → 2 ≤ most → Early most (grid_fit count dx dy)
   unfolding grid_fit
   grid-early most h =
-      of_three (Early most) (fit_is.Refused BadSide) (fit_is.Refused BadDimension) fit_is.Fits
+      of_three (Early most) (Err BadSide) (Err BadDimension) (Ok tt)
       (λ why e. omega (arith, fit-number BadSide why e))
       (λ why e. omega (arith, fit-number BadDimension why e))
       (λ why e. absurd (let z : ◌≡◌ {A = ℕ} 0 1 = cc in omega arith))
       (bad_side dx dy) (bad_count count dx dy)
 
-  wrong-is-refused : (WrongSide dx ⊎ WrongSide dy) → fit_is.Refused BadSide ≡ grid_fit count dx dy
+  wrong-is-refused : (WrongSide dx ⊎ WrongSide dy) → Err BadSide ≡ grid_fit count dx dy
   wrong-is-refused (inl (inl none)) = no-columns-are-refused count dx dy none
   wrong-is-refused (inl (inr more)) = too-many-columns-are-refused count dx dy more
   wrong-is-refused (inr (inl none)) = no-rows-are-refused count dx dy none
   wrong-is-refused (inr (inr more)) = too-many-rows-are-refused count dx dy more
 
   -- what a refusal tells of the grid, by all cases of its sides and its count
-  told : (P : Type 0) (why : Refusal) → grid_fit count dx dy ≡ fit_is.Refused why → ((WrongSide dx ⊎ WrongSide dy) → fit_is.Refused BadSide ≡ fit_is.Refused why → P)
-      → (RightSide dx × RightSide dy × (count ≢ dx * dy) → fit_is.Refused BadDimension ≡ fit_is.Refused why → P) → P
+  told : (P : Type 0) (why : Refusal) → grid_fit count dx dy ≡ Err why → ((WrongSide dx ⊎ WrongSide dy) → Err BadSide ≡ Err why → P)
+      → (RightSide dx × RightSide dy × (count ≢ dx * dy) → Err BadDimension ≡ Err why → P) → P
   told P why e wrong miscounted = by (either dx) (either dy) (ℕ_discrete count (dx * dy))
     where
       by : WrongSide dx ⊎ RightSide dx → WrongSide dy ⊎ RightSide dy → Dec (count ≡ dx * dy) → P
       by (inl w) side counted = wrong (inl w) (wrong-is-refused (inl w) ∙ e)
       by (inr x) (inl w) counted = wrong (inr w) (wrong-is-refused (inr w) ∙ e)
       by (inr x) (inr y) (yes right) =
-          let fits : fit_is.Fits ≡ fit_is.Refused why = a-right-count-fits count dx dy x.0 x.1 y.0 y.1 right ∙ e in
+          let fits : (Ok tt) ≡ Err why = a-right-count-fits count dx dy x.0 x.1 y.0 y.1 right ∙ e in
           absurd (let z : ◌≡◌ {A = ℕ} 0 1 = cc in omega arith)
       by (inr x) (inr y) (no other) = miscounted (x, y, other) (a-wrong-count-is-refused count dx dy x.0 x.1 y.0 y.1 other ∙ e)
 
   -- an answer that refuses as the grid's fit does
-  pub grid-exact : {Made : Type 0} {refuse : Refusal → Made} {answer : Made} → ((why : Refusal) → refusal_number why ≤ 2 → (grid_fit count dx dy ≡ fit_is.Refused why) ↔ (answer ≡ refuse why))
+  pub grid-exact : {Made : Type 0} {refuse : Refusal → Made} {answer : Made} → ((why : Refusal) → refusal_number why ≤ 2 → (grid_fit count dx dy ≡ Err why) ↔ (answer ≡ refuse why))
       → GridExact refuse answer count dx dy
   grid-exact to = record {
     bad-side-exactly =

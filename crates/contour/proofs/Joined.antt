@@ -18,16 +18,13 @@ use Rattle.scope.specs.Drawing.{segment_count, peak}
 use Rattle.scope.specs.Room.{open_words, link_words, band_open_words, band_link_words}
 use Rattle.grid.specs.Grid.{grid_fit}
 use Rattle.scan.specs.Report.{room_of, report_for, first_report}
-use Rattle.grid.specs.declared.GridFit.{GridFit}
-use Rattle.grid.specs.declared.GridFit.TheVariants as fit_is
 use Rattle.scan.specs.declared.FirstReport.{FirstReport}
-use Rattle.scan.specs.declared.FirstReport.TheVariants as first-is
 use Rattle.isoringbuilder.specs.Verdict.{refused, passes, after_grid, work_verdict}
 use Rattle.isoringbuilder.specs.Answers.{reported, on_entry}
 use Rattle.isoringbuilder.specs.declared.SecondReport.{SecondReport}
-use Rattle.isoringbuilder.specs.declared.SecondReport.TheVariants as second_is
 use Rattle.bands.specs.Bands.{level_at, list_fit, band_fit, lower_sheet, upper_sheet, band_verdict, band_room_of, band_first_report, band_reported, BandReported}
 use Rattle.contour.proofs.Lowest.{rooms}
+use Rattle.std.specs.Prelude.{Result, Ok, Err}
 
 -- of two refusals that of the lower number
 unfoldable pub lower : Refusal → Refusal → Refusal
@@ -42,18 +39,18 @@ lower-same f = by (leb (refusal_number f) (refusal_number f))
     by false = refl
 
 -- two first reports: the larger S and the larger H
-unfoldable pub joined_first : FirstReport → FirstReport → FirstReport
-joined_first (first-is.Refused f) (first-is.Refused g) = first-is.Refused (lower f g)
-joined_first (first-is.Refused f) (first-is.Room s h) = first-is.Refused f
-joined_first (first-is.Room s h) (first-is.Refused g) = first-is.Refused g
-joined_first (first-is.Room s h) (first-is.Room s' h') = first-is.Room (max s s') (max h h')
+unfoldable pub joined_first : Result FirstReport Refusal → Result FirstReport Refusal → Result FirstReport Refusal
+joined_first (Err f) (Err g) = Err (lower f g)
+joined_first (Err f) (Ok (record { segments = s; peak = h })) = Err f
+joined_first (Ok (record { segments = s; peak = h })) (Err g) = Err g
+joined_first (Ok (record { segments = s; peak = h })) (Ok (record { segments = s'; peak = h' })) = Ok (record { segments = max s s'; peak = max h h' })
 
 -- two second reports: the larger S, the sum of R, the larger H, and the sum of the points
-unfoldable pub joined_second : SecondReport → SecondReport → SecondReport
-joined_second (second_is.Refused f) (second_is.Refused g) = second_is.Refused (lower f g)
-joined_second (second_is.Refused f) (second_is.Room s r h p) = second_is.Refused f
-joined_second (second_is.Room s r h p) (second_is.Refused g) = second_is.Refused g
-joined_second (second_is.Room s r h p) (second_is.Room s' r' h' p') = second_is.Room (max s s') (r + r') (max h h') (p + p')
+unfoldable pub joined_second : Result SecondReport Refusal → Result SecondReport Refusal → Result SecondReport Refusal
+joined_second (Err f) (Err g) = Err (lower f g)
+joined_second (Err f) (Ok (record { segments = s; rings = r; peak = h; points = p })) = Err f
+joined_second (Ok (record { segments = s; rings = r; peak = h; points = p })) (Err g) = Err g
+joined_second (Ok (record { segments = s; rings = r; peak = h; points = p })) (Ok (record { segments = s'; rings = r'; peak = h'; points = p' })) = Ok (record { segments = max s s'; rings = r + r'; peak = max h h'; points = p + p' })
 
 -- a table is short for the larger of two needs where it is short for one of them
 either-short : (m n n' larger : ℕ) → larger ≡ max n n' → ltb m larger ≡ ltb m n || ltb m n'
@@ -85,19 +82,19 @@ module _ (L U : Sheet) (dx dy : ℕ) (lines links : ℕ) where
   links-either : ltb links (band_link_words (segment_count L dx dy) (segment_count U dx dy)) ≡ ltb links (link_words (segment_count L dx dy)) || ltb links (link_words (segment_count U dx dy))
   links-either = either-short links (link_words (segment_count L dx dy)) (link_words (segment_count U dx dy)) (band_link_words (segment_count L dx dy) (segment_count U dx dy)) (unfold band_link_words link_words in omega arith)
 
-  by-fit : (fit : GridFit) → band_reported (band_verdict fit L U dx dy lines links) L U dx dy
+  by-fit : (fit : Result (Unit {0}) Refusal) → band_reported (band_verdict fit L U dx dy lines links) L U dx dy
       ≡ joined_second (reported (after_grid fit (rooms OpenShort LinksShort lines (open_words dx (peak L dx dy)) links (link_words (segment_count L dx dy)))) L dx dy)
       (reported (after_grid fit (rooms OpenShort LinksShort lines (open_words dx (peak U dx dy)) links (link_words (segment_count U dx dy)))) U dx dy)
   unfolding band_verdict after_grid band_reported reported joined_second
-  by-fit (fit_is.Refused f) = ap second_is.Refused (sym (lower-same f))
-  by-fit fit_is.Fits =
+  by-fit (Err f) = ap Err (sym (lower-same f))
+  by-fit (Ok tt) =
       ap₂ (λ (x y : Bool). band_reported (cond x (refused OpenShort) (cond y (refused LinksShort) passes)) L U dx dy) open-either links-either
       ∙ by_tests (ltb lines (open_words dx (peak L dx dy))) (ltb lines (open_words dx (peak U dx dy))) (ltb links (link_words (segment_count L dx dy))) (ltb links (link_words (segment_count U dx dy)))
 
-  first-by-fit : (fit : GridFit) → report_for fit (band_room_of L U dx dy) ≡ joined_first (report_for fit (room_of L dx dy)) (report_for fit (room_of U dx dy))
+  first-by-fit : (fit : Result (Unit {0}) Refusal) → report_for fit (band_room_of L U dx dy) ≡ joined_first (report_for fit (room_of L dx dy)) (report_for fit (room_of U dx dy))
   unfolding report_for band_room_of room_of joined_first
-  first-by-fit fit_is.Fits = refl
-  first-by-fit (fit_is.Refused f) = ap first-is.Refused (sym (lower-same f))
+  first-by-fit (Ok tt) = refl
+  first-by-fit (Err f) = ap Err (sym (lower-same f))
 
 -- where k + 1 is a place in the list
 module _ (values thresholds : List Float) (rule : Rule) (k dx dy : ℕ) (place : suc k < length thresholds) where
@@ -105,9 +102,9 @@ module _ (values thresholds : List Float) (rule : Rule) (k dx dy : ℕ) (place :
   unfolding band_fit list_fit
   listed = by (grid_fit (length values) dx dy)
     where
-      by : (fit : GridFit) → list_fit fit (length thresholds) k ≡ fit
-      by fit_is.Fits = rw (le-ltb (length thresholds) 2 (omega arith), lt-ltb (suc k) (length thresholds) place)
-      by (fit_is.Refused f) = refl
+      by : (fit : Result (Unit {0}) Refusal) → list_fit fit (length thresholds) k ≡ fit
+      by (Ok tt) = rw (le-ltb (length thresholds) 2 (omega arith), lt-ltb (suc k) (length thresholds) place)
+      by (Err f) = refl
 
   -- a band's first report joins the first reports of its two thresholds
   pub band-first-report-joins : band_first_report values thresholds rule k dx dy ≡ joined_first (first_report values (level_at thresholds rule k) dx dy) (first_report values (level_at thresholds rule (suc k)) dx dy)
@@ -115,10 +112,10 @@ module _ (values thresholds : List Float) (rule : Rule) (k dx dy : ℕ) (place :
   band-first-report-joins = rw listed (first-by-fit (lower_sheet values thresholds rule k dx dy) (upper_sheet values thresholds rule k dx dy) dx dy 0 0 (grid_fit (length values) dx dy))
 
   -- its second report joins their second reports over the same tables
-  pub band-second-report-joins : (lines links : List ℕ) {answer : SecondReport} {lines' links' : List ℕ} → BandReported values thresholds rule k dx dy lines links answer lines' links'
+  pub band-second-report-joins : (lines links : List ℕ) {answer : Result SecondReport Refusal} {lines' links' : List ℕ} → BandReported values thresholds rule k dx dy lines links answer lines' links'
       → answer ≡ joined_second (reported (on_entry values (level_at thresholds rule k) dx dy lines links) (lower_sheet values thresholds rule k dx dy) dx dy) (reported (on_entry values (level_at thresholds rule (suc k)) dx dy lines links) (upper_sheet values thresholds rule k dx dy) dx dy)
   unfolding work_verdict
   band-second-report-joins lines links r =
       r.answers
-      ∙ ap (λ (fit : GridFit). band_reported (band_verdict fit (lower_sheet values thresholds rule k dx dy) (upper_sheet values thresholds rule k dx dy) dx dy (length lines) (length links)) (lower_sheet values thresholds rule k dx dy) (upper_sheet values thresholds rule k dx dy) dx dy) listed
+      ∙ ap (λ (fit : Result (Unit {0}) Refusal). band_reported (band_verdict fit (lower_sheet values thresholds rule k dx dy) (upper_sheet values thresholds rule k dx dy) dx dy (length lines) (length links)) (lower_sheet values thresholds rule k dx dy) (upper_sheet values thresholds rule k dx dy) dx dy) listed
       ∙ by-fit (lower_sheet values thresholds rule k dx dy) (upper_sheet values thresholds rule k dx dy) dx dy (length lines) (length links) (grid_fit (length values) dx dy)

@@ -11,11 +11,8 @@ use borrow.Author.Tests.{lt-ltb, le-ltb, ltb-true, ltb-false}
 use Rattle.error.specs.Number.{refusal_number}
 use Rattle.error.specs.declared.Refusal.{Refusal}
 use Rattle.error.specs.declared.Refusal.TheVariants.{OpenShort, LinksShort, PointsShort, DirectoryShort}
-use Rattle.grid.specs.declared.GridFit.{GridFit}
-use Rattle.grid.specs.declared.GridFit.TheVariants as fit_is
 use Rattle.isoringbuilder.specs.Verdict.{Verdict, refused, passes, after_grid}
-use Rattle.isoringbuilder.specs.declared.Built.{Built}
-use Rattle.isoringbuilder.specs.declared.Built.TheVariants as built-is
+use Rattle.std.specs.Prelude.{Result, Ok, Err}
 
 -- ---- 1. tests
 
@@ -122,34 +119,34 @@ then-up-to (refused f) w most up up' why e = up why e
 then-up-to passes w most up up' why e = up' why e
 
 -- the verdict on a fit
-pub fit-exactly : (fit : GridFit) (why : Refusal) → (fit ≡ fit_is.Refused why) ↔ (after_grid fit passes ≡ refused why)
+pub fit-exactly : (fit : Result (Unit {0}) Refusal) (why : Refusal) → (fit ≡ Err why) ↔ (after_grid fit passes ≡ refused why)
 unfolding after_grid
-fit-exactly fit_is.Fits why = (λ e. absurd (let z : ◌≡◌ {A = ℕ} 0 1 = cc in omega arith), λ e. absurd (no-refusal why (sym e)))
-fit-exactly (fit_is.Refused f) why = (λ e. cc, λ e. cc)
+fit-exactly (Ok tt) why = (λ e. absurd (let z : ◌≡◌ {A = ℕ} 0 1 = cc in omega arith), λ e. absurd (no-refusal why (sym e)))
+fit-exactly (Err f) why = (λ e. cc, λ e. cc)
 
-pub fits-exactly : (fit : GridFit) → (fit ≡ fit_is.Fits) ↔ (after_grid fit passes ≡ passes)
+pub fits-exactly : (fit : Result (Unit {0}) Refusal) → (fit ≡ Ok tt) ↔ (after_grid fit passes ≡ passes)
 unfolding after_grid
-fits-exactly fit_is.Fits = (λ e. refl, λ e. refl)
-fits-exactly (fit_is.Refused f) = (λ e. absurd (let z : ◌≡◌ {A = ℕ} 0 1 = cc in omega arith), λ e. absurd (no-refusal f e))
+fits-exactly (Ok tt) = (λ e. refl, λ e. refl)
+fits-exactly (Err f) = (λ e. absurd (let z : ◌≡◌ {A = ℕ} 0 1 = cc in omega arith), λ e. absurd (no-refusal f e))
 
 -- a fit refuses with no number above
-abbrev pub Early : ℕ → GridFit → Type 0
-Early most fit = (why : Refusal) → fit ≡ fit_is.Refused why → refusal_number why ≤ most
+abbrev pub Early : ℕ → Result (Unit {0}) Refusal → Type 0
+Early most fit = (why : Refusal) → fit ≡ Err why → refusal_number why ≤ most
 
-pub fit-number : (f why : Refusal) → fit_is.Refused f ≡ fit_is.Refused why → refusal_number f ≡ refusal_number why
+pub fit-number : (f why : Refusal) → Err f ≡ Err why → refusal_number f ≡ refusal_number why
 fit-number f why e = let same : f ≡ why = cc in ap refusal_number same
 
-after-fit : (fit : GridFit) (later : Verdict) → and_then (after_grid fit passes) later ≡ after_grid fit later
+after-fit : (fit : Result (Unit {0}) Refusal) (later : Verdict) → and_then (after_grid fit passes) later ≡ after_grid fit later
 unfolding and_then after_grid
-after-fit fit_is.Fits later = refl
-after-fit (fit_is.Refused f) later = refl
+after-fit (Ok tt) later = refl
+after-fit (Err f) later = refl
 
 -- the grid or the band fits, and both work tables have their room
-abbrev pub WorkRoom : GridFit → ℕ → ℕ → ℕ → ℕ → Type 0
-WorkRoom fit lines open_need links link_need = (fit ≡ fit_is.Fits) × (open_need ≤ lines) × (link_need ≤ links)
+abbrev pub WorkRoom : Result (Unit {0}) Refusal → ℕ → ℕ → ℕ → ℕ → Type 0
+WorkRoom fit lines open_need links link_need = (fit ≡ Ok tt) × (open_need ≤ lines) × (link_need ≤ links)
 
 -- the fit, whose refusals are the first four, then the two work tables
-module _ (fit : GridFit) (lines open_need links link_need : ℕ) where
+module _ (fit : Result (Unit {0}) Refusal) (lines open_need links link_need : ℕ) where
   abbrev tables : Verdict
   tables = rooms OpenShort LinksShort lines open_need links link_need
 
@@ -162,7 +159,7 @@ module _ (fit : GridFit) (lines open_need links link_need : ℕ) where
   tables-give : (why : Refusal) → tables ≡ refused why → (5 ≤ refusal_number why) × (refusal_number why ≤ 6)
   tables-give = rooms-give OpenShort LinksShort (omega arith) lines open_need links link_need
 
-  work-fit : (why : Refusal) → refusal_number why ≤ 4 → (fit ≡ fit_is.Refused why) ↔ (work ≡ refused why)
+  work-fit : (why : Refusal) → refusal_number why ≤ 4 → (fit ≡ Err why) ↔ (work ≡ refused why)
   work-fit why low =
       through (refused why) (Iff.trans (fit-exactly fit why) (earlier-exactly (after_grid fit passes) tables 5 (λ f e. (tables-give f e).0) why (omega arith)))
 
@@ -177,13 +174,13 @@ module _ (fit : GridFit) (lines open_need links link_need : ℕ) where
     first-four : UpTo (after_grid fit passes) 4
     first-four why e = early why ((fit-exactly fit why).1 e)
 
-    work-open : ((fit ≡ fit_is.Fits) × (lines < open_need)) ↔ (work ≡ refused OpenShort)
+    work-open : ((fit ≡ Ok tt) × (lines < open_need)) ↔ (work ≡ refused OpenShort)
     work-open =
         through (refused OpenShort)
         (Iff.trans (Iff.and (fits-exactly fit) (low-exactly OpenShort LinksShort (omega arith) lines open_need links link_need))
         (later-exactly (after_grid fit passes) tables 4 first-four OpenShort (omega arith)))
 
-    work-links : ((fit ≡ fit_is.Fits) × (open_need ≤ lines) × (links < link_need)) ↔ (work ≡ refused LinksShort)
+    work-links : ((fit ≡ Ok tt) × (open_need ≤ lines) × (links < link_need)) ↔ (work ≡ refused LinksShort)
     work-links =
         through (refused LinksShort)
         (Iff.trans three
@@ -229,24 +226,24 @@ module _ {Made : Type 0} {refuse : Refusal → Made} {give : Made} (o : Answers 
   given-exactly passes is = (λ e. is, λ e. refl)
 
 -- an answer against the fit and the room of the work tables: each refusal up to 6 is answered exactly where it is the lowest that applies
-pub record WorkExact {Made : Type 0} (refuse : Refusal → Made) (answer : Made) (fit : GridFit) (lines open_need links link_need : ℕ) : Type 0 where
-  pub fit-refused-exactly : (why : Refusal) → refusal_number why ≤ 4 → (fit ≡ fit_is.Refused why) ↔ (answer ≡ refuse why)
-  pub open-short-exactly : ((fit ≡ fit_is.Fits) × (lines < open_need)) ↔ (answer ≡ refuse OpenShort)
-  pub links-short-exactly : ((fit ≡ fit_is.Fits) × (open_need ≤ lines) × (links < link_need)) ↔ (answer ≡ refuse LinksShort)
+pub record WorkExact {Made : Type 0} (refuse : Refusal → Made) (answer : Made) (fit : Result (Unit {0}) Refusal) (lines open_need links link_need : ℕ) : Type 0 where
+  pub fit-refused-exactly : (why : Refusal) → refusal_number why ≤ 4 → (fit ≡ Err why) ↔ (answer ≡ refuse why)
+  pub open-short-exactly : ((fit ≡ Ok tt) × (lines < open_need)) ↔ (answer ≡ refuse OpenShort)
+  pub links-short-exactly : ((fit ≡ Ok tt) × (open_need ≤ lines) × (links < link_need)) ↔ (answer ≡ refuse LinksShort)
 
 -- a second report's answer: a refusal up to 6, or what is given exactly where nothing is short
-pub record ReportExact {Made : Type 0} (refuse : Refusal → Made) (give answer : Made) (fit : GridFit) (lines open_need links link_need : ℕ) : Type 0 where
+pub record ReportExact {Made : Type 0} (refuse : Refusal → Made) (give answer : Made) (fit : Result (Unit {0}) Refusal) (lines open_need links link_need : ℕ) : Type 0 where
   pub work-exact : WorkExact refuse answer fit lines open_need links link_need
   pub given-exactly : WorkRoom fit lines open_need links link_need ↔ (answer ≡ give)
 
 -- a build's answer: a refusal up to 8, or the number of rings exactly where nothing is short
-pub record BuildExact (rings : ℕ) (answer : Built) (fit : GridFit) (lines open_need links link_need points point_need directory directory_need : ℕ) : Type 0 where
-  pub work-exact : WorkExact built-is.Refused answer fit lines open_need links link_need
-  pub points-short-exactly : (WorkRoom fit lines open_need links link_need × (points < point_need)) ↔ (answer ≡ built-is.Refused PointsShort)
-  pub directory-short-exactly : (WorkRoom fit lines open_need links link_need × (point_need ≤ points) × (directory < directory_need)) ↔ (answer ≡ built-is.Refused DirectoryShort)
-  pub given-exactly : (WorkRoom fit lines open_need links link_need × (point_need ≤ points) × (directory_need ≤ directory)) ↔ (answer ≡ built-is.Rings rings)
+pub record BuildExact (rings : ℕ) (answer : Result ℕ Refusal) (fit : Result (Unit {0}) Refusal) (lines open_need links link_need points point_need directory directory_need : ℕ) : Type 0 where
+  pub work-exact : WorkExact Err answer fit lines open_need links link_need
+  pub points-short-exactly : (WorkRoom fit lines open_need links link_need × (points < point_need)) ↔ (answer ≡ Err PointsShort)
+  pub directory-short-exactly : (WorkRoom fit lines open_need links link_need × (point_need ≤ points) × (directory < directory_need)) ↔ (answer ≡ Err DirectoryShort)
+  pub given-exactly : (WorkRoom fit lines open_need links link_need × (point_need ≤ points) × (directory_need ≤ directory)) ↔ (answer ≡ Ok rings)
 
-module _ (fit : GridFit) (early : Early 4 fit) (lines open_need links link_need : ℕ) where
+module _ (fit : Result (Unit {0}) Refusal) (early : Early 4 fit) (lines open_need links link_need : ℕ) where
   abbrev whole : Verdict
   whole = after_grid fit (rooms OpenShort LinksShort lines open_need links link_need)
 
@@ -269,14 +266,14 @@ module _ (fit : GridFit) (early : Early 4 fit) (lines open_need links link_need 
           (Iff.trans (λ e. (e, refl), λ e. e.0) (Iff.trans (both-exactly whole passes) (given-exactly o answer (and_then whole passes) is)));
     }
 
-  module _ (points point_need directory directory_need rings : ℕ) (answer : Built) where
+  module _ (points point_need directory directory_need rings : ℕ) (answer : Result ℕ Refusal) where
     abbrev outputs : Verdict
     outputs = rooms PointsShort DirectoryShort points point_need directory directory_need
 
-    builds : Answers built-is.Refused (built-is.Rings rings)
+    builds : Answers Err (Ok rings)
     builds = record { apart = λ why e. let z : ◌≡◌ {A = ℕ} 0 1 = cc in omega arith; same = λ f g e. cc }
 
-    pub build-exact : answer ≡ answer_by built-is.Refused (built-is.Rings rings) (and_then whole outputs) → BuildExact rings answer fit lines open_need links link_need points point_need directory directory_need
+    pub build-exact : answer ≡ answer_by Err (Ok rings) (and_then whole outputs) → BuildExact rings answer fit lines open_need links link_need points point_need directory directory_need
     build-exact is = record {
       work-exact = works builds answer outputs (λ why e. (rooms-give PointsShort DirectoryShort (omega arith) points point_need directory directory_need why e).0) is;
       points-short-exactly = to PointsShort (omega arith) (low-exactly PointsShort DirectoryShort (omega arith) points point_need directory directory_need);
@@ -287,7 +284,7 @@ module _ (fit : GridFit) (early : Early 4 fit) (lines open_need links link_need 
           (Iff.trans (both-exactly whole outputs) (given-exactly builds answer (and_then whole outputs) is)));
     }
       where
-        to : {P : Type 0} (why : Refusal) → 6 < refusal_number why → P ↔ (outputs ≡ refused why) → (WorkRoom fit lines open_need links link_need × P) ↔ (answer ≡ built-is.Refused why)
+        to : {P : Type 0} (why : Refusal) → 6 < refusal_number why → P ↔ (outputs ≡ refused why) → (WorkRoom fit lines open_need links link_need × P) ↔ (answer ≡ Err why)
         to why more h =
             Iff.trans (Iff.and (work-passes fit lines open_need links link_need) h)
             (Iff.trans (later-exactly whole outputs 6 (work-up-to fit lines open_need links link_need early) why more) (refusal-exactly builds answer (and_then whole outputs) is why))

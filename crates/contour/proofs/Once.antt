@@ -10,11 +10,11 @@ use Rattle.scope.specs.declared.Level.{Level}
 use Rattle.scope.specs.Limits.{no_owner}
 use Rattle.readable.proofs.Pieces.{EachRingOnce, each-ring-once}
 use Rattle.readable.proofs.Viewer.{Shown, shown}
-use Rattle.isoringbuilder.specs.declared.Built.{Built}
-use Rattle.isoringbuilder.specs.declared.Built.TheVariants as built-is
 use Rattle.bands.specs.Bands.{BandBuilt}
 use Rattle.contourbuilder.specs.Contours.{ContoursBuilt}
 use Rattle.contour.proofs.Checked.{Checked, contours-checked, isobands-checked}
+use Rattle.std.specs.Prelude.{Result, Ok}
+use Rattle.error.specs.declared.Refusal.{Refusal}
 
 once : {points directory : List ℕ} {n : ℕ} → Checked points directory n → EachRingOnce points directory n
 unfolding no_owner
@@ -23,7 +23,7 @@ once {points} {directory} {n} k = each-ring-once points directory n (omega (arit
 seen : {points directory : List ℕ} {n : ℕ} → Checked points directory n → Shown points directory n
 seen {points} {directory} {n} k = shown points directory n k.passes-nine
 
-module _ {lines links points directory : List ℕ} {answer : Built} {lines' links' points' directory' : List ℕ} {n : ℕ} (is : answer ≡ built-is.Rings n) (dx dy : ℕ) where
+module _ {lines links points directory : List ℕ} {answer : Result ℕ Refusal} {lines' links' points' directory' : List ℕ} {n : ℕ} (is : answer ≡ Ok n) (dx dy : ℕ) where
   pub contours-text-has-each-ring-once : (values : List Float) (level : Level) → ContoursBuilt values level dx dy lines links points directory answer lines' links' points' directory'
       → EachRingOnce points' directory' n
   contours-text-has-each-ring-once values level b = once (contours-checked values level dx dy lines links points directory b n is)

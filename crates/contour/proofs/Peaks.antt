@@ -16,17 +16,15 @@ use Rattle.laws.proofs.Edges.{Outside}
 use Rattle.laws.proofs.Laws.{the-peak-is-low}
 use Rattle.laws.proofs.Shared.{the-peak-is-highest-as-worded, the-peak-is-reached-as-worded}
 use Rattle.grid.specs.Grid.{grid_fit}
-use Rattle.grid.specs.declared.GridFit.{GridFit}
-use Rattle.grid.specs.declared.GridFit.TheVariants as fit_is
 use Rattle.scan.specs.Report.{room_of, report_for, first_report}
-use Rattle.scan.specs.declared.FirstReport.TheVariants as first-is
 use Rattle.scan.proofs.Samples.{terrain-outside}
 use Rattle.isoringbuilder.specs.Answers.{above, SecondReported}
-use Rattle.isoringbuilder.specs.declared.SecondReport.TheVariants as second_is
 use Rattle.bands.specs.Bands.{level_at, band_fit, lower_sheet, upper_sheet, band_room_of, band_first_report, BandReported}
 use Rattle.contour.proofs.Results.{room-given}
 use Rattle.contour.proofs.Theorems.{second-worked}
 use Rattle.contour.proofs.Bands.{report-worked}
+use Rattle.std.specs.Prelude.{Result, Ok, Err}
+use Rattle.error.specs.declared.Refusal.{Refusal}
 
 -- of numbers after each cell, twice h is the largest, and h is at most (dx + 2) / 2
 pub record LargestHalf (dx dy : ℕ) (pairs : ℕ → ℕ → ℕ) (h : ℕ) : Type 0 where
@@ -62,10 +60,10 @@ module _ {dx dy : ℕ} where
           (w.0, w.1, w.2, w.3, omega (arith, w.4, the-peak-is-highest-as-worded U out-U w.0 w.1 w.2 w.3))
 
 -- a first report that answers a room answers the one that was to be given
-first-given : (fit : GridFit) (S H s h : ℕ) → report_for fit (first-is.Room S H) ≡ first-is.Room s h → H ≡ h
+first-given : (fit : Result (Unit {0}) Refusal) (S H s h : ℕ) → report_for fit (Ok (record { segments = S; peak = H })) ≡ Ok (record { segments = s; peak = h }) → H ≡ h
 unfolding report_for
-first-given fit_is.Fits S H s h e = cc
-first-given (fit_is.Refused why) S H s h e = absurd (let z : ◌≡◌ {A = ℕ} 0 1 = cc in omega arith)
+first-given (Ok tt) S H s h e = cc
+first-given (Err why) S H s h e = absurd (let z : ◌≡◌ {A = ℕ} 0 1 = cc in omega arith)
 
 -- one level
 module _ (values : List Float) (level : Level) (dx dy : ℕ) where
@@ -75,11 +73,11 @@ module _ (values : List Float) (level : Level) (dx dy : ℕ) where
   at_level : (h : ℕ) → peak A dx dy ≡ h → LargestHalf dx dy (pairs_of (above values level dx dy) dx dy) h
   at_level h same = subst (LargestHalf dx dy (pairs_of A dx dy)) same (the-peak-is A (terrain-outside (above_at level) values dx dy))
 
-  pub first-report-peak : (s h : ℕ) → first_report values level dx dy ≡ first-is.Room s h → LargestHalf dx dy (pairs_of (above values level dx dy) dx dy) h
+  pub first-report-peak : (s h : ℕ) → first_report values level dx dy ≡ Ok (record { segments = s; peak = h }) → LargestHalf dx dy (pairs_of (above values level dx dy) dx dy) h
   unfolding first_report room_of
   first-report-peak s h e = at_level h (first-given (grid_fit (length values) dx dy) (segment_count A dx dy) (peak A dx dy) s h e)
 
-  pub second-report-peak : (lines links : List ℕ) {lines' links' : List ℕ} (s r h p : ℕ) → SecondReported values level dx dy lines links (second_is.Room s r h p) lines' links'
+  pub second-report-peak : (lines links : List ℕ) {lines' links' : List ℕ} (s r h p : ℕ) → SecondReported values level dx dy lines links (Ok (record { segments = s; rings = r; peak = h; points = p })) lines' links'
       → LargestHalf dx dy (pairs_of (above values level dx dy) dx dy) h
   second-report-peak lines links s r h p k = at_level h (room-given (second-worked values level dx dy lines links k)).3
 
@@ -96,12 +94,12 @@ module _ (values thresholds : List Float) (rule : Rule) (k dx dy : ℕ) where
       subst (LargestHalf dx dy (more_pairs L U dx dy)) same
       (the-larger-peak-is L U (terrain-outside (above_at (level_at thresholds rule k)) values dx dy) (terrain-outside (above_at (level_at thresholds rule (suc k))) values dx dy))
 
-  pub band-first-report-peak : (s h : ℕ) → band_first_report values thresholds rule k dx dy ≡ first-is.Room s h
+  pub band-first-report-peak : (s h : ℕ) → band_first_report values thresholds rule k dx dy ≡ Ok (record { segments = s; peak = h })
       → LargestHalf dx dy (more_pairs (lower_sheet values thresholds rule k dx dy) (upper_sheet values thresholds rule k dx dy) dx dy) h
   unfolding band_first_report band_room_of
   band-first-report-peak s h e =
       in-band h (first-given (band_fit (length values) dx dy (length thresholds) k) (max (segment_count L dx dy) (segment_count U dx dy)) (max (peak L dx dy) (peak U dx dy)) s h e)
 
-  pub band-second-report-peak : (lines links : List ℕ) {lines' links' : List ℕ} (s r h p : ℕ) → BandReported values thresholds rule k dx dy lines links (second_is.Room s r h p) lines' links'
+  pub band-second-report-peak : (lines links : List ℕ) {lines' links' : List ℕ} (s r h p : ℕ) → BandReported values thresholds rule k dx dy lines links (Ok (record { segments = s; rings = r; peak = h; points = p })) lines' links'
       → LargestHalf dx dy (more_pairs (lower_sheet values thresholds rule k dx dy) (upper_sheet values thresholds rule k dx dy) dx dy) h
   band-second-report-peak lines links s r h p b = in-band h (room-given (report-worked b)).3

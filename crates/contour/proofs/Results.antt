@@ -8,31 +8,27 @@ use lib.ListN.{length, drop, replicate, drop_of_length-le}
 use Rattle.error.specs.declared.Refusal.{Refusal}
 use Rattle.error.specs.declared.Refusal.TheVariants.{OpenShort, LinksShort, PointsShort, DirectoryShort}
 use Rattle.scope.specs.Tables.{zeroed, written}
-use Rattle.grid.specs.declared.GridFit.{GridFit}
-use Rattle.grid.specs.declared.GridFit.TheVariants as fit_is
 use Rattle.isoringbuilder.specs.Verdict.{Verdict, refused, passes, after_grid}
 use Rattle.isoringbuilder.specs.Answers.{work_after, output_after}
-use Rattle.isoringbuilder.specs.declared.SecondReport.TheVariants as second_is
-use Rattle.isoringbuilder.specs.declared.Built.{Built}
-use Rattle.isoringbuilder.specs.declared.Built.TheVariants as built-is
 use Rattle.contour.proofs.Lowest.{rooms, and_then, answer_by, Answers, Early, ReportExact, BuildExact, report-exact, build-exact, work-passes, passes-exactly}
+use Rattle.std.specs.Prelude.{Result, Ok, Err}
 
 -- the verdicts on the work tables, behind the fit, and on the outputs
-abbrev pub work_of : GridFit → ℕ → ℕ → List ℕ → List ℕ → Verdict
+abbrev pub work_of : Result (Unit {0}) Refusal → ℕ → ℕ → List ℕ → List ℕ → Verdict
 work_of fit open_need link_need lines links = after_grid fit (rooms OpenShort LinksShort (length lines) open_need (length links) link_need)
 
 abbrev pub outputs_of : {Word : Type 0} → ℕ → ℕ → List Word → List ℕ → Verdict
 outputs_of point_need directory_need points directory = rooms PointsShort DirectoryShort (length points) point_need (length directory) directory_need
 
 -- the answer, by the work tables and a later verdict, and the work tables at exit
-pub record Worked {Made : Type 0} (refuse : Refusal → Made) (give : Made) (fit : GridFit) (open_need link_need : ℕ) (later : Verdict) (lines links : List ℕ) (answer : Made) (lines' links' : List ℕ) : Type 0 where
+pub record Worked {Made : Type 0} (refuse : Refusal → Made) (give : Made) (fit : Result (Unit {0}) Refusal) (open_need link_need : ℕ) (later : Verdict) (lines links : List ℕ) (answer : Made) (lines' links' : List ℕ) : Type 0 where
   pub answers : answer ≡ answer_by refuse give (and_then (work_of fit open_need link_need lines links) later)
   pub lines_are : lines' ≡ work_after (work_of fit open_need link_need lines links) open_need lines
   pub links-are : links' ≡ work_after (work_of fit open_need link_need lines links) link_need links
 
 -- what a build is to come to: its fit, the number of rings, the words that each table needs, and the words of the outputs, where points are words of any type
 pub record Plan (Word : Type 0) : Type 0 where
-  pub fit : GridFit
+  pub fit : Result (Unit {0}) Refusal
   pub rings : ℕ
   pub open_need : ℕ
   pub link_need : ℕ
@@ -42,19 +38,19 @@ pub record Plan (Word : Type 0) : Type 0 where
   pub records : List ℕ
 
 -- a build's answer, and all tables at exit
-pub record Constructed {Word : Type 0} (plan : Plan Word) (lines links : List ℕ) (points : List Word) (directory : List ℕ) (answer : Built) (lines' links' : List ℕ) (points' : List Word) (directory' : List ℕ) : Type 0 where
-  pub worked : Worked built-is.Refused (built-is.Rings plan.rings) plan.fit plan.open_need plan.link_need (outputs_of plan.point_need plan.directory_need points directory) lines links answer lines' links'
+pub record Constructed {Word : Type 0} (plan : Plan Word) (lines links : List ℕ) (points : List Word) (directory : List ℕ) (answer : Result ℕ Refusal) (lines' links' : List ℕ) (points' : List Word) (directory' : List ℕ) : Type 0 where
+  pub worked : Worked Err (Ok plan.rings) plan.fit plan.open_need plan.link_need (outputs_of plan.point_need plan.directory_need points directory) lines links answer lines' links'
   pub points-are : points' ≡ output_after (work_of plan.fit plan.open_need plan.link_need lines links) (outputs_of plan.point_need plan.directory_need points directory) plan.packed points
   pub directory-is : directory' ≡ output_after (work_of plan.fit plan.open_need plan.link_need lines links) (outputs_of plan.point_need plan.directory_need points directory) plan.records directory
 
 -- ---- 1. one result
 
-module _ {Made : Type 0} {refuse : Refusal → Made} {give : Made} {fit : GridFit} {open_need link_need : ℕ} {later : Verdict} {lines links : List ℕ} where
+module _ {Made : Type 0} {refuse : Refusal → Made} {give : Made} {fit : Result (Unit {0}) Refusal} {open_need link_need : ℕ} {later : Verdict} {lines links : List ℕ} where
   pub one-worked : {p q : Made} {pl pk ql qk : List ℕ} → Worked refuse give fit open_need link_need later lines links p pl pk → Worked refuse give fit open_need link_need later lines links q ql qk → (p ≡ q) × (pl ≡ ql) × (pk ≡ qk)
   one-worked a b = (a.answers ∙ sym b.answers, a.lines_are ∙ sym b.lines_are, a.links-are ∙ sym b.links-are)
 
 module _ {Word : Type 0} {plan : Plan Word} {lines links : List ℕ} {points : List Word} {directory : List ℕ} where
-  pub one-construction : {p q : Built} {pl pk ql qk : List ℕ} {pp qp : List Word} {pd qd : List ℕ} → Constructed plan lines links points directory p pl pk pp pd → Constructed plan lines links points directory q ql qk qp qd
+  pub one-construction : {p q : Result ℕ Refusal} {pl pk ql qk : List ℕ} {pp qp : List Word} {pd qd : List ℕ} → Constructed plan lines links points directory p pl pk pp pd → Constructed plan lines links points directory q ql qk qp qd
       → (p ≡ q) × (pl ≡ ql) × (pk ≡ qk) × (pp ≡ qp) × (pd ≡ qd)
   one-construction a b =
       let both = one-worked a.worked b.worked in
@@ -63,17 +59,17 @@ module _ {Word : Type 0} {plan : Plan Word} {lines links : List ℕ} {points : L
 -- ---- 2. refused exactly
 
 -- a build's answer against what it needs and what it is lent
-abbrev pub Exact : {Word : Type 0} → Plan Word → List ℕ → List ℕ → List Word → List ℕ → Built → Type 0
+abbrev pub Exact : {Word : Type 0} → Plan Word → List ℕ → List ℕ → List Word → List ℕ → Result ℕ Refusal → Type 0
 Exact plan lines links points directory answer =
     BuildExact plan.rings answer plan.fit (length lines) plan.open_need (length links) plan.link_need (length points) plan.point_need (length directory) plan.directory_need
 
-module _ {Made : Type 0} {refuse : Refusal → Made} {give : Made} {fit : GridFit} {open_need link_need : ℕ} {lines links : List ℕ} where
+module _ {Made : Type 0} {refuse : Refusal → Made} {give : Made} {fit : Result (Unit {0}) Refusal} {open_need link_need : ℕ} {lines links : List ℕ} where
   pub worked-exact : Answers refuse give → Early 4 fit → {answer : Made} {lines' links' : List ℕ} → Worked refuse give fit open_need link_need passes lines links answer lines' links'
       → ReportExact refuse give answer fit (length lines) open_need (length links) link_need
   worked-exact o early {answer} k = report-exact fit early (length lines) open_need (length links) link_need o answer k.answers
 
 module _ {Word : Type 0} {plan : Plan Word} {lines links : List ℕ} {points : List Word} {directory : List ℕ} where
-  pub constructed-exact : Early 4 plan.fit → {answer : Built} {lines' links' : List ℕ} {points' : List Word} {directory' : List ℕ} → Constructed plan lines links points directory answer lines' links' points' directory'
+  pub constructed-exact : Early 4 plan.fit → {answer : Result ℕ Refusal} {lines' links' : List ℕ} {points' : List Word} {directory' : List ℕ} → Constructed plan lines links points directory answer lines' links' points' directory'
       → Exact plan lines links points directory answer
   constructed-exact early {answer} k =
       build-exact plan.fit early (length lines) plan.open_need (length links) plan.link_need (length points) plan.point_need (length directory) plan.directory_need plan.rings answer
@@ -93,15 +89,15 @@ pub record JustRoom {Word : Type 0} (plan : Plan Word) (lines links : List ℕ) 
   pub directory-just : length directory ≡ plan.directory_need
 
 -- all rings are given, points and records are the whole outputs, and both work tables are all zero
-pub record Filled {Word : Type 0} (plan : Plan Word) (answer : Built) (lines' links' : List ℕ) (points' : List Word) (directory' : List ℕ) : Type 0 where
-  pub answer-is : answer ≡ built-is.Rings plan.rings
+pub record Filled {Word : Type 0} (plan : Plan Word) (answer : Result ℕ Refusal) (lines' links' : List ℕ) (points' : List Word) (directory' : List ℕ) : Type 0 where
+  pub answer-is : answer ≡ Ok plan.rings
   pub points-are : points' ≡ plan.packed
   pub directory-is : directory' ≡ plan.records
   pub lines_are : lines' ≡ replicate plan.open_need 0
   pub links-are : links' ≡ replicate plan.link_need 0
 
-module _ {Word : Type 0} {plan : Plan Word} {lines links : List ℕ} {points : List Word} {directory : List ℕ} {answer : Built} {lines' links' : List ℕ} {points' : List Word} {directory' : List ℕ} where
-  pub fills : plan.fit ≡ fit_is.Fits → length plan.packed ≡ plan.point_need → length plan.records ≡ plan.directory_need → JustRoom plan lines links points directory
+module _ {Word : Type 0} {plan : Plan Word} {lines links : List ℕ} {points : List Word} {directory : List ℕ} {answer : Result ℕ Refusal} {lines' links' : List ℕ} {points' : List Word} {directory' : List ℕ} where
+  pub fills : plan.fit ≡ Ok tt → length plan.packed ≡ plan.point_need → length plan.records ≡ plan.directory_need → JustRoom plan lines links points directory
       → Constructed plan lines links points directory answer lines' links' points' directory' → Filled plan answer lines' links' points' directory'
   unfolding answer_by and_then work_after output_after written zeroed
   fills fits ep ed just k = record {
@@ -122,18 +118,18 @@ module _ {Word : Type 0} {plan : Plan Word} {lines links : List ℕ} {points : L
 
 -- n rings were given: the fit passed, and points and records are written over the outputs
 pub record Given {Word : Type 0} (plan : Plan Word) (points : List Word) (directory : List ℕ) (n : ℕ) (points' : List Word) (directory' : List ℕ) : Type 0 where
-  pub fits : plan.fit ≡ fit_is.Fits
+  pub fits : plan.fit ≡ Ok tt
   pub rings-are : plan.rings ≡ n
   pub points-are : points' ≡ written plan.packed points
   pub directory-is : directory' ≡ written plan.records directory
 
-module _ {Word : Type 0} {plan : Plan Word} {lines links : List ℕ} {points : List Word} {directory : List ℕ} {answer : Built} {lines' links' : List ℕ} {points' : List Word} {directory' : List ℕ} where
-  pub given : (n : ℕ) → answer ≡ built-is.Rings n → Constructed plan lines links points directory answer lines' links' points' directory' → Given plan points directory n points' directory'
+module _ {Word : Type 0} {plan : Plan Word} {lines links : List ℕ} {points : List Word} {directory : List ℕ} {answer : Result ℕ Refusal} {lines' links' : List ℕ} {points' : List Word} {directory' : List ℕ} where
+  pub given : (n : ℕ) → answer ≡ Ok n → Constructed plan lines links points directory answer lines' links' points' directory' → Given plan points directory n points' directory'
   unfolding answer_by and_then output_after
   given n is k = by (work_of plan.fit plan.open_need plan.link_need lines links) (outputs_of plan.point_need plan.directory_need points directory) refl refl (sym k.worked.answers ∙ is)
     where
       by : (v w : Verdict) → work_of plan.fit plan.open_need plan.link_need lines links ≡ v → outputs_of plan.point_need plan.directory_need points directory ≡ w
-          → answer_by built-is.Refused (built-is.Rings plan.rings) (and_then v w) ≡ built-is.Rings n → Given plan points directory n points' directory'
+          → answer_by Err (Ok plan.rings) (and_then v w) ≡ Ok n → Given plan points directory n points' directory'
       by (refused why) w work outputs e = absurd (let z : ◌≡◌ {A = ℕ} 0 1 = cc in omega arith)
       by passes (refused why) work outputs e = absurd (let z : ◌≡◌ {A = ℕ} 0 1 = cc in omega arith)
       by passes passes work outputs e = record {
@@ -145,14 +141,14 @@ module _ {Word : Type 0} {plan : Plan Word} {lines links : List ℕ} {points : L
 
 -- ---- 5. the numbers of a second report
 
-module _ {S R H P s r h p : ℕ} {fit : GridFit} {open_need link_need : ℕ} {lines links lines' links' : List ℕ} where
+module _ {S R H P s r h p : ℕ} {fit : Result (Unit {0}) Refusal} {open_need link_need : ℕ} {lines links lines' links' : List ℕ} where
   -- where a room is answered the fit passed, and it is the room that was to be given
-  pub room-given : Worked second_is.Refused (second_is.Room S R H P) fit open_need link_need passes lines links (second_is.Room s r h p) lines' links'
-      → (fit ≡ fit_is.Fits) × (S ≡ s) × (R ≡ r) × (H ≡ h) × (P ≡ p)
+  pub room-given : Worked Err (Ok (record { segments = S; rings = R; peak = H; points = P })) fit open_need link_need passes lines links (Ok (record { segments = s; rings = r; peak = h; points = p })) lines' links'
+      → (fit ≡ Ok tt) × (S ≡ s) × (R ≡ r) × (H ≡ h) × (P ≡ p)
   unfolding answer_by and_then
   room-given k = by (work_of fit open_need link_need lines links) refl k.answers
     where
-      by : (v : Verdict) → work_of fit open_need link_need lines links ≡ v → second_is.Room s r h p ≡ answer_by second_is.Refused (second_is.Room S R H P) (and_then v passes)
-          → (fit ≡ fit_is.Fits) × (S ≡ s) × (R ≡ r) × (H ≡ h) × (P ≡ p)
+      by : (v : Verdict) → work_of fit open_need link_need lines links ≡ v → Ok (record { segments = s; rings = r; peak = h; points = p }) ≡ answer_by Err (Ok (record { segments = S; rings = R; peak = H; points = P })) (and_then v passes)
+          → (fit ≡ Ok tt) × (S ≡ s) × (R ≡ r) × (H ≡ h) × (P ≡ p)
       by (refused why) work e = absurd (let z : ◌≡◌ {A = ℕ} 0 1 = cc in omega arith)
       by passes work e = (((work-passes fit (length lines) open_need (length links) link_need).1 work).0, cc, cc, cc, cc)

@@ -11,20 +11,18 @@ use Rattle.scope.specs.declared.Rule.{Rule}
 use Rattle.scope.specs.declared.Level.{Level}
 use Rattle.scope.specs.Tables.{written}
 use Rattle.scope.specs.GeoJson.{ring_set_refused, geo_json_text}
-use Rattle.isoringbuilder.specs.declared.Built.{Built}
-use Rattle.isoringbuilder.specs.declared.Built.TheVariants as built-is
 use Rattle.bands.specs.Bands.{BandBuilt}
 use Rattle.contourbuilder.specs.Contours.{ContoursBuilt}
-use Rattle.geojson.specs.declared.TextAnswer.{TextAnswer}
-use Rattle.geojson.specs.declared.TextAnswer.TheVariants as text-is
 use Rattle.geojson.proofs.Laws.{Length, Writing, length-exact, writing-exact}
 use Rattle.contour.proofs.Results.{nothing-past}
 use Rattle.contour.proofs.Checked.{contours-checked, isobands-checked}
+use Rattle.std.specs.Prelude.{Result, Ok}
+use Rattle.error.specs.declared.Refusal.{Refusal}
 
 -- lent just the room, a set that passes has its text written, and that is the whole room
-pub exact-text-room : {ps directory : List ℕ} {rings : ℕ} {text : List ℕ} {answer : TextAnswer} {text' : List ℕ} → ring_set_refused ps directory rings ≡ false
+pub exact-text-room : {ps directory : List ℕ} {rings : ℕ} {text : List ℕ} {answer : Result ℕ Refusal} {text' : List ℕ} → ring_set_refused ps directory rings ≡ false
     → length text ≡ length (geo_json_text ps directory rings) → Writing ps directory rings text answer text'
-    → (answer ≡ text-is.Bytes (length (geo_json_text ps directory rings))) × (text' ≡ geo_json_text ps directory rings)
+    → (answer ≡ Ok (length (geo_json_text ps directory rings))) × (text' ≡ geo_json_text ps directory rings)
 unfolding written
 exact-text-room {ps} {directory} {rings} {text} passes just w =
     let exactly = writing-exact w in
@@ -32,14 +30,14 @@ exact-text-room {ps} {directory} {rings} {text} passes just w =
     (is, exactly.text-stands-first is ∙ nothing-past (geo_json_text ps directory rings) text (length (geo_json_text ps directory rings)) just)
 
 -- for the tables of a build the answer is the text's length, and no refusal
-module _ {lines links points directory : List ℕ} {answer : Built} {lines' links' points' directory' : List ℕ} {n : ℕ} (is : answer ≡ built-is.Rings n)
-    {told : TextAnswer} (length-told : Length points' directory' n told) where
+module _ {lines links points directory : List ℕ} {answer : Result ℕ Refusal} {lines' links' points' directory' : List ℕ} {n : ℕ} (is : answer ≡ Ok n)
+    {told : Result ℕ Refusal} (length-told : Length points' directory' n told) where
   pub contours-have-a-length : (values : List Float) (level : Level) (dx dy : ℕ) → ContoursBuilt values level dx dy lines links points directory answer lines' links' points' directory'
-      → told ≡ text-is.Bytes (length (geo_json_text points' directory' n))
+      → told ≡ Ok (length (geo_json_text points' directory' n))
   contours-have-a-length values level dx dy b =
       (length-exact length-told).given-exactly.0 (contours-checked values level dx dy lines links points directory b n is).passes-nine
 
   pub isobands-have-a-length : (values thresholds : List Float) (rule : Rule) (k dx dy : ℕ) → BandBuilt values thresholds rule k dx dy lines links points directory answer lines' links' points' directory'
-      → told ≡ text-is.Bytes (length (geo_json_text points' directory' n))
+      → told ≡ Ok (length (geo_json_text points' directory' n))
   isobands-have-a-length values thresholds rule k dx dy b =
       (length-exact length-told).given-exactly.0 (isobands-checked values thresholds rule k dx dy lines links points directory b n is).passes-nine

@@ -20,16 +20,10 @@ use Rattle.laws.proofs.Edges.{Outside}
 use Rattle.machine.proofs.Built.{packed-points-fill-their-room, records-fill-their-room}
 use Rattle.grid.specs.Grid.{grid_fit}
 use Rattle.scan.specs.Report.{room_of, report_for, first_report}
-use Rattle.grid.specs.declared.GridFit.{GridFit}
-use Rattle.grid.specs.declared.GridFit.TheVariants as fit_is
-use Rattle.scan.specs.declared.FirstReport.TheVariants as first-is
 use Rattle.scan.proofs.Samples.{terrain-outside}
 use Rattle.isoringbuilder.specs.Verdict.{passes, work_verdict, room_verdict, output_verdict}
 use Rattle.isoringbuilder.specs.Answers.{work_after, output_after, reported, built, above, on_entry, on_outputs, SecondReported, RingsBuilt}
 use Rattle.isoringbuilder.specs.declared.SecondReport.{SecondReport}
-use Rattle.isoringbuilder.specs.declared.SecondReport.TheVariants as second_is
-use Rattle.isoringbuilder.specs.declared.Built.{Built}
-use Rattle.isoringbuilder.specs.declared.Built.TheVariants as built-is
 use Rattle.contourbuilder.specs.Contours.{ContoursBuilt}
 use Rattle.contourbuilder.proofs.Lengths.{contour-length}
 use Rattle.plotting.proofs.Laws.{line-points-fill-their-room}
@@ -37,6 +31,7 @@ use Rattle.linebuilder.specs.Lines.{LinesBuilt}
 use Rattle.contour.proofs.Lowest.{Answers, by_one, by_two, ReportExact}
 use Rattle.contour.proofs.Grids.{GridExact, grid-early, grid-exact}
 use Rattle.contour.proofs.Results.{Worked, Plan, Constructed, one-worked, one-construction, Exact, worked-exact, constructed-exact, JustRoom, Filled, fills}
+use Rattle.std.specs.Prelude.{Result, Ok, Err}
 
 -- the first report, area and contains answer what a definition gives for the entry: two such answers are equal
 pub one_answer : {Answer : Type 0} {given p q : Answer} → p ≡ given → q ≡ given → p ≡ q
@@ -45,15 +40,15 @@ one_answer a b = a ∙ sym b
 -- ---- 1. the first report
 
 -- a first report refuses as the fit does, and where that passes gives its room
-pub report-for-exactly : (fit : GridFit) (s h : ℕ) → ((why : Refusal) → (fit ≡ fit_is.Refused why) ↔ (report_for fit (first-is.Room s h) ≡ first-is.Refused why)) × ((fit ≡ fit_is.Fits) ↔ (report_for fit (first-is.Room s h) ≡ first-is.Room s h))
+pub report-for-exactly : (fit : Result (Unit {0}) Refusal) (s h : ℕ) → ((why : Refusal) → (fit ≡ Err why) ↔ (report_for fit (Ok (record { segments = s; peak = h })) ≡ Err why)) × ((fit ≡ Ok tt) ↔ (report_for fit (Ok (record { segments = s; peak = h })) ≡ Ok (record { segments = s; peak = h })))
 unfolding report_for
-report-for-exactly fit_is.Fits s h = (λ why. (λ e. absurd (let z : ◌≡◌ {A = ℕ} 0 1 = cc in omega arith), λ e. absurd (let z : ◌≡◌ {A = ℕ} 0 1 = cc in omega arith)), (λ e. refl, λ e. refl))
-report-for-exactly (fit_is.Refused f) s h =
+report-for-exactly (Ok tt) s h = (λ why. (λ e. absurd (let z : ◌≡◌ {A = ℕ} 0 1 = cc in omega arith), λ e. absurd (let z : ◌≡◌ {A = ℕ} 0 1 = cc in omega arith)), (λ e. refl, λ e. refl))
+report-for-exactly (Err f) s h =
     (λ why. (λ e. cc, λ e. cc), (λ e. absurd (let z : ◌≡◌ {A = ℕ} 0 1 = cc in omega arith), λ e. absurd (let z : ◌≡◌ {A = ℕ} 0 1 = cc in omega arith)))
 
 -- numbers 1 and 2 in the first report, and S and H exactly where the grid fits
-pub first-report-exactly : (values : List Float) (level : Level) (dx dy : ℕ) → GridExact first-is.Refused (first_report values level dx dy) (length values) dx dy
-    × ((grid_fit (length values) dx dy ≡ fit_is.Fits) ↔ (first_report values level dx dy ≡ first-is.Room (segment_count (above values level dx dy) dx dy) (peak (above values level dx dy) dx dy)))
+pub first-report-exactly : (values : List Float) (level : Level) (dx dy : ℕ) → GridExact Err (first_report values level dx dy) (length values) dx dy
+    × ((grid_fit (length values) dx dy ≡ Ok tt) ↔ (first_report values level dx dy ≡ Ok (record { segments = segment_count (above values level dx dy) dx dy; peak = peak (above values level dx dy) dx dy })))
 unfolding first_report room_of
 first-report-exactly values level dx dy =
     let exactly = report-for-exactly (grid_fit (length values) dx dy) (segment_count (above values level dx dy) dx dy) (peak (above values level dx dy) dx dy) in
@@ -62,35 +57,35 @@ first-report-exactly values level dx dy =
 -- ---- 2. the second report
 
 -- a second report's answers are told apart
-pub reports : (s r h p : ℕ) → Answers second_is.Refused (second_is.Room s r h p)
+pub reports : (s r h p : ℕ) → Answers Err (Ok (record { segments = s; rings = r; peak = h; points = p }))
 reports s r h p = record { apart = λ why e. let z : ◌≡◌ {A = ℕ} 0 1 = cc in omega arith; same = λ f g e. cc }
 
-abbrev pub room_at : List Float → Level → ℕ → ℕ → SecondReport
+abbrev pub room_at : List Float → Level → ℕ → ℕ → Result SecondReport Refusal
 room_at values level dx dy =
-    second_is.Room (segment_count (above values level dx dy) dx dy) (ring_count (above values level dx dy) dx dy) (peak (above values level dx dy) dx dy)
+    ??second_is.Room (segment_count (above values level dx dy) dx dy) (ring_count (above values level dx dy) dx dy) (peak (above values level dx dy) dx dy)
     (point_count (segment_count (above values level dx dy) dx dy) (ring_count (above values level dx dy) dx dy))
 
 module _ (values : List Float) (level : Level) (dx dy : ℕ) (lines links : List ℕ) where
   abbrev sheet : Sheet
   sheet = terrain (above_at level) values dx dy
 
-  pub second-worked : {p : SecondReport} {lines' links' : List ℕ} → SecondReported values level dx dy lines links p lines' links'
-      → Worked second_is.Refused (room_at values level dx dy) (grid_fit (length values) dx dy) (open_words dx (peak sheet dx dy)) (link_words (segment_count sheet dx dy)) passes lines links p lines' links'
+  pub second-worked : {p : Result SecondReport Refusal} {lines' links' : List ℕ} → SecondReported values level dx dy lines links p lines' links'
+      → Worked Err (room_at values level dx dy) (grid_fit (length values) dx dy) (open_words dx (peak sheet dx dy)) (link_words (segment_count sheet dx dy)) passes lines links p lines' links'
   unfolding work_verdict reported
   second-worked k = record {
-    answers = k.answers ∙ by_one second_is.Refused (room_at values level dx dy) (λ v. reported v sheet dx dy) (λ why. refl) refl (on_entry values level dx dy lines links);
+    answers = k.answers ∙ by_one Err (room_at values level dx dy) (λ v. reported v sheet dx dy) (λ why. refl) refl (on_entry values level dx dy lines links);
     lines_are = k.lines_are;
     links-are = k.links-are;
   }
 
   -- two results that meet the second report's contract on the same entry are equal
-  pub one-second-report : {p q : SecondReport} {pl pk ql qk : List ℕ} → SecondReported values level dx dy lines links p pl pk → SecondReported values level dx dy lines links q ql qk → (p ≡ q) × (pl ≡ ql) × (pk ≡ qk)
+  pub one-second-report : {p q : Result SecondReport Refusal} {pl pk ql qk : List ℕ} → SecondReported values level dx dy lines links p pl pk → SecondReported values level dx dy lines links q ql qk → (p ≡ q) × (pl ≡ ql) × (pk ≡ qk)
   one-second-report a b = one-worked (second-worked a) (second-worked b)
 
   -- numbers 1, 2, 5 and 6 exactly
-  pub second-report-exactly : {p : SecondReport} {lines' links' : List ℕ} → SecondReported values level dx dy lines links p lines' links'
-      → GridExact second_is.Refused p (length values) dx dy
-      × ReportExact second_is.Refused (room_at values level dx dy) p (grid_fit (length values) dx dy) (length lines) (open_words dx (peak sheet dx dy)) (length links) (link_words (segment_count sheet dx dy))
+  pub second-report-exactly : {p : Result SecondReport Refusal} {lines' links' : List ℕ} → SecondReported values level dx dy lines links p lines' links'
+      → GridExact Err p (length values) dx dy
+      × ReportExact Err (room_at values level dx dy) p (grid_fit (length values) dx dy) (length lines) (open_words dx (peak sheet dx dy)) (length links) (link_words (segment_count sheet dx dy))
   second-report-exactly k =
       let exactly = worked-exact (reports _ _ _ _) (grid-early (length values) dx dy 4 (omega arith)) (second-worked k) in
       (grid-exact (length values) dx dy (λ why low. exactly.work-exact.fit-refused-exactly why (omega arith)), exactly)
@@ -132,7 +127,7 @@ module _ (values : List Float) (level : Level) (dx dy : ℕ) where
   contour-records-fill-their-room = contour-length (rings_of A dx dy)
 
   -- the five equations of such a contract
-  drawn : {Word : Type 0} (packed : List Word) (records lines links : List ℕ) (points : List Word) (directory : List ℕ) {answer : Built} {lines' links' : List ℕ} {points' : List Word} {directory' : List ℕ}
+  drawn : {Word : Type 0} (packed : List Word) (records lines links : List ℕ) (points : List Word) (directory : List ℕ) {answer : Result ℕ Refusal} {lines' links' : List ℕ} {points' : List Word} {directory' : List ℕ}
       → answer ≡ built (on_entry values level dx dy lines links) (on_outputs values level dx dy points directory) A dx dy
       → lines' ≡ work_after (on_entry values level dx dy lines links) (open_words dx (peak A dx dy)) lines
       → links' ≡ work_after (on_entry values level dx dy lines links) (link_words (segment_count A dx dy)) links
@@ -142,7 +137,7 @@ module _ (values : List Float) (level : Level) (dx dy : ℕ) where
   unfolding built work_verdict output_verdict room_verdict
   drawn packed records lines links points directory a l k p d = record {
     worked = record {
-      answers = a ∙ by_two built-is.Refused (built-is.Rings (ring_count A dx dy)) (λ v w. built v w A dx dy) (λ why w. refl) (λ why. refl) refl (on_entry values level dx dy lines links) (on_outputs values level dx dy points directory);
+      answers = a ∙ by_two Err (Ok (ring_count A dx dy)) (λ v w. built v w A dx dy) (λ why w. refl) (λ why. refl) refl (on_entry values level dx dy lines links) (on_outputs values level dx dy points directory);
       lines_are = l;
       links-are = k;
     };
@@ -151,42 +146,42 @@ module _ (values : List Float) (level : Level) (dx dy : ℕ) where
   }
 
   -- numbers 1, 2 and 5 to 8 of such a build exactly
-  drawn-exactly : {Word : Type 0} {packed : List Word} {records lines links : List ℕ} {points : List Word} {directory : List ℕ} {answer : Built} {lines' links' : List ℕ} {points' : List Word} {directory' : List ℕ}
+  drawn-exactly : {Word : Type 0} {packed : List Word} {records lines links : List ℕ} {points : List Word} {directory : List ℕ} {answer : Result ℕ Refusal} {lines' links' : List ℕ} {points' : List Word} {directory' : List ℕ}
       → Constructed (drawn_plan values level dx dy packed records) lines links points directory answer lines' links' points' directory'
-      → GridExact built-is.Refused answer (length values) dx dy × Exact (drawn_plan values level dx dy packed records) lines links points directory answer
+      → GridExact Err answer (length values) dx dy × Exact (drawn_plan values level dx dy packed records) lines links points directory answer
   drawn-exactly k =
       let exactly = constructed-exact (grid-early (length values) dx dy 4 (omega arith)) k in
       (grid-exact (length values) dx dy (λ why low. exactly.work-exact.fit-refused-exactly why (omega arith)), exactly)
 
   module _ (lines links points directory : List ℕ) where
-    rings-constructed : {answer : Built} {lines' links' points' directory' : List ℕ} → RingsBuilt values level dx dy lines links points directory answer lines' links' points' directory'
+    rings-constructed : {answer : Result ℕ Refusal} {lines' links' points' directory' : List ℕ} → RingsBuilt values level dx dy lines links points directory answer lines' links' points' directory'
         → Constructed (rings_plan values level dx dy) lines links points directory answer lines' links' points' directory'
     rings-constructed k = drawn (packed_points (rings_of A dx dy)) (bare_records 0 0 (rings_of A dx dy)) lines links points directory k.answers k.lines_are k.links-are k.points-are k.directory-is
 
-    pub contours-constructed : {answer : Built} {lines' links' points' directory' : List ℕ} → ContoursBuilt values level dx dy lines links points directory answer lines' links' points' directory'
+    pub contours-constructed : {answer : Result ℕ Refusal} {lines' links' points' directory' : List ℕ} → ContoursBuilt values level dx dy lines links points directory answer lines' links' points' directory'
         → Constructed (contours_plan values level dx dy) lines links points directory answer lines' links' points' directory'
     contours-constructed k = drawn (packed_points (rings_of A dx dy)) (contour_records (rings_of A dx dy)) lines links points directory k.answers k.lines_are k.links-are k.points-are k.directory-is
 
     -- two results that meet the contract of contour_rings, or that of contours, on the same entry are equal
-    pub one-build : {p q : Built} {pl pk pp pd ql qk qp qd : List ℕ} → RingsBuilt values level dx dy lines links points directory p pl pk pp pd → RingsBuilt values level dx dy lines links points directory q ql qk qp qd
+    pub one-build : {p q : Result ℕ Refusal} {pl pk pp pd ql qk qp qd : List ℕ} → RingsBuilt values level dx dy lines links points directory p pl pk pp pd → RingsBuilt values level dx dy lines links points directory q ql qk qp qd
         → (p ≡ q) × (pl ≡ ql) × (pk ≡ qk) × (pp ≡ qp) × (pd ≡ qd)
     one-build a b = one-construction (rings-constructed a) (rings-constructed b)
 
-    pub one-contours : {p q : Built} {pl pk pp pd ql qk qp qd : List ℕ} → ContoursBuilt values level dx dy lines links points directory p pl pk pp pd → ContoursBuilt values level dx dy lines links points directory q ql qk qp qd
+    pub one-contours : {p q : Result ℕ Refusal} {pl pk pp pd ql qk qp qd : List ℕ} → ContoursBuilt values level dx dy lines links points directory p pl pk pp pd → ContoursBuilt values level dx dy lines links points directory q ql qk qp qd
         → (p ≡ q) × (pl ≡ ql) × (pk ≡ qk) × (pp ≡ qp) × (pd ≡ qd)
     one-contours a b = one-construction (contours-constructed a) (contours-constructed b)
 
     -- numbers 1, 2 and 5 to 8 exactly
-    pub rings-exactly : {answer : Built} {lines' links' points' directory' : List ℕ} → RingsBuilt values level dx dy lines links points directory answer lines' links' points' directory'
-        → GridExact built-is.Refused answer (length values) dx dy × Exact (rings_plan values level dx dy) lines links points directory answer
+    pub rings-exactly : {answer : Result ℕ Refusal} {lines' links' points' directory' : List ℕ} → RingsBuilt values level dx dy lines links points directory answer lines' links' points' directory'
+        → GridExact Err answer (length values) dx dy × Exact (rings_plan values level dx dy) lines links points directory answer
     rings-exactly k = drawn-exactly (rings-constructed k)
 
-    pub contours-exactly : {answer : Built} {lines' links' points' directory' : List ℕ} → ContoursBuilt values level dx dy lines links points directory answer lines' links' points' directory'
-        → GridExact built-is.Refused answer (length values) dx dy × Exact (contours_plan values level dx dy) lines links points directory answer
+    pub contours-exactly : {answer : Result ℕ Refusal} {lines' links' points' directory' : List ℕ} → ContoursBuilt values level dx dy lines links points directory answer lines' links' points' directory'
+        → GridExact Err answer (length values) dx dy × Exact (contours_plan values level dx dy) lines links points directory answer
     contours-exactly k = drawn-exactly (contours-constructed k)
 
     -- lent just the room, a grid that fits gives all its rings, its points and records are the whole outputs, and both work tables are all zero
-    module _ (fits : grid_fit (length values) dx dy ≡ fit_is.Fits) {answer : Built} {lines' links' points' directory' : List ℕ} where
+    module _ (fits : grid_fit (length values) dx dy ≡ Ok tt) {answer : Result ℕ Refusal} {lines' links' points' directory' : List ℕ} where
       pub exact-room : JustRoom (rings_plan values level dx dy) lines links points directory → RingsBuilt values level dx dy lines links points directory answer lines' links' points' directory'
           → Filled (rings_plan values level dx dy) answer lines' links' points' directory'
       exact-room just k = fills fits (packed-points-fill-their-room A out) (records-fill-their-room A out) just (rings-constructed k)
@@ -197,18 +192,18 @@ module _ (values : List Float) (level : Level) (dx dy : ℕ) where
 
   -- contour_lines: one result, each refusal exactly, and exact room filled
   module _ (smooth : Bool) (q : Placing) (lines links : List ℕ) (points : List Float) (directory : List ℕ) where
-    pub lines-constructed : {answer : Built} {lines' links' : List ℕ} {points' : List Float} {directory' : List ℕ} → LinesBuilt values level dx dy smooth q lines links points directory answer lines' links' points' directory'
+    pub lines-constructed : {answer : Result ℕ Refusal} {lines' links' : List ℕ} {points' : List Float} {directory' : List ℕ} → LinesBuilt values level dx dy smooth q lines links points directory answer lines' links' points' directory'
         → Constructed (lines_plan values level dx dy smooth q) lines links points directory answer lines' links' points' directory'
     lines-constructed k = drawn (line_points smooth values level.threshold dx dy q (rings_of A dx dy)) (bare_records 0 0 (rings_of A dx dy)) lines links points directory k.answers k.lines_are k.links-are k.points-are k.directory-is
 
-    pub one-lines : {p r : Built} {pl pk rl rk : List ℕ} {pp rp : List Float} {pd rd : List ℕ} → LinesBuilt values level dx dy smooth q lines links points directory p pl pk pp pd → LinesBuilt values level dx dy smooth q lines links points directory r rl rk rp rd
+    pub one-lines : {p r : Result ℕ Refusal} {pl pk rl rk : List ℕ} {pp rp : List Float} {pd rd : List ℕ} → LinesBuilt values level dx dy smooth q lines links points directory p pl pk pp pd → LinesBuilt values level dx dy smooth q lines links points directory r rl rk rp rd
         → (p ≡ r) × (pl ≡ rl) × (pk ≡ rk) × (pp ≡ rp) × (pd ≡ rd)
     one-lines a b = one-construction (lines-constructed a) (lines-constructed b)
 
-    pub lines-exactly : {answer : Built} {lines' links' : List ℕ} {points' : List Float} {directory' : List ℕ} → LinesBuilt values level dx dy smooth q lines links points directory answer lines' links' points' directory'
-        → GridExact built-is.Refused answer (length values) dx dy × Exact (lines_plan values level dx dy smooth q) lines links points directory answer
+    pub lines-exactly : {answer : Result ℕ Refusal} {lines' links' : List ℕ} {points' : List Float} {directory' : List ℕ} → LinesBuilt values level dx dy smooth q lines links points directory answer lines' links' points' directory'
+        → GridExact Err answer (length values) dx dy × Exact (lines_plan values level dx dy smooth q) lines links points directory answer
     lines-exactly k = drawn-exactly (lines-constructed k)
 
-    pub lines-exact-room : grid_fit (length values) dx dy ≡ fit_is.Fits → {answer : Built} {lines' links' : List ℕ} {points' : List Float} {directory' : List ℕ} → JustRoom (lines_plan values level dx dy smooth q) lines links points directory
+    pub lines-exact-room : grid_fit (length values) dx dy ≡ Ok tt → {answer : Result ℕ Refusal} {lines' links' : List ℕ} {points' : List Float} {directory' : List ℕ} → JustRoom (lines_plan values level dx dy smooth q) lines links points directory
         → LinesBuilt values level dx dy smooth q lines links points directory answer lines' links' points' directory' → Filled (lines_plan values level dx dy smooth q) answer lines' links' points' directory'
     lines-exact-room fits just k = fills fits (line-points-fill-their-room A out smooth values level.threshold q) (records-fill-their-room A out) just (lines-constructed k)

@@ -28,7 +28,7 @@ use scope::{Level, Rule};
 use smoothing::Placement;
 
 // The segments that a grid draws at a level and the peak of its open lines, or the lowest refusal that applies, alone.
-pub fn first_report(values: &[f64], level: Level, dx: usize, dy: usize) -> FirstReport
+pub fn first_report(values: &[f64], level: Level, dx: usize, dy: usize) -> Result<FirstReport, Refusal>
     ensures { result ≡ first_report values.now level dx dy }
 {
     scan::first_report(values, level, dx, dy)
@@ -42,7 +42,7 @@ pub fn second_report(
     dy: usize,
     lines: &mut [u32],
     links: &mut [u32],
-) -> SecondReport
+) -> Result<SecondReport, Refusal>
     ensures { SecondReported values.now level dx dy lines.old links.old result lines.new links.new }
 {
     isoringbuilder::second_report(values, level, dx, dy, lines, links)
@@ -59,7 +59,7 @@ pub fn contour_rings(
     links: &mut [u32],
     points: &mut [u16],
     directory: &mut [u32],
-) -> Built
+) -> Result<u32, Refusal>
     ensures { RingsBuilt values.now level dx dy lines.old links.old points.old directory.old result
         lines.new links.new points.new directory.new }
 {
@@ -117,7 +117,7 @@ pub fn contour_lines(
     links: &mut [u32],
     points: &mut [f64],
     directory: &mut [u32],
-) -> Built
+) -> Result<u32, Refusal>
     ensures { LinesBuilt values.now level dx dy smooth (placing_of placement) lines.old links.old points.old directory.old result
         lines.new links.new points.new directory.new }
 {
@@ -137,7 +137,7 @@ pub fn contours(
     links: &mut [u32],
     points: &mut [u16],
     directory: &mut [u32],
-) -> Built
+) -> Result<u32, Refusal>
     ensures { ContoursBuilt values.now level dx dy lines.old links.old points.old directory.old result
         lines.new links.new points.new directory.new }
 {
@@ -152,7 +152,7 @@ pub fn band_first_report(
     k: usize,
     dx: usize,
     dy: usize,
-) -> FirstReport
+) -> Result<FirstReport, Refusal>
     ensures { result ≡ band_first_report values.now thresholds.now rule k dx dy }
 {
     bands::band_first_report(values, thresholds, rule, k, dx, dy)
@@ -168,7 +168,7 @@ pub fn band_second_report(
     dy: usize,
     lines: &mut [u32],
     links: &mut [u32],
-) -> SecondReport
+) -> Result<SecondReport, Refusal>
     ensures { BandReported values.now thresholds.now rule k dx dy lines.old links.old result lines.new links.new }
 {
     bands::band_second_report(values, thresholds, rule, k, dx, dy, lines, links)
@@ -188,7 +188,7 @@ pub fn isobands(
     links: &mut [u32],
     points: &mut [u16],
     directory: &mut [u32],
-) -> Built
+) -> Result<u32, Refusal>
     ensures { BandBuilt values.now thresholds.now rule k dx dy lines.old links.old points.old directory.old result
         lines.new links.new points.new directory.new }
 {
@@ -198,14 +198,14 @@ pub fn isobands(
 }
 
 // The signed area of a ring, or the refusal of words that are no ring.
-pub fn area(ring: &[u16]) -> AreaAnswer
+pub fn area(ring: &[u16]) -> Result<i64, Refusal>
     ensures { result ≡ area_answer ring.now }
 {
     area::area(ring)
 }
 
 // The tested ring against the outer ring: the first tested vertex that lies on no pair of the outer ring decides.
-pub fn contains(outer: &[u16], tested: &[u16]) -> Containment
+pub fn contains(outer: &[u16], tested: &[u16]) -> Result<Containment, Refusal>
     ensures { result ≡ contains_answer outer.now tested.now }
 {
     area::contains(outer, tested)
@@ -219,14 +219,14 @@ pub fn ring_set_faulty(points: &[u16], directory: &[u32], rings: u32) -> bool
 }
 
 // The number of bytes that the text of a ring set needs, or the refusal of a set that the writer does not take.
-pub fn geojson_length(points: &[u16], directory: &[u32], rings: u32) -> TextAnswer
+pub fn geojson_length(points: &[u16], directory: &[u32], rings: u32) -> Result<u64, Refusal>
     ensures { result ≡ length_answer points.now directory.now rings }
 {
     geojson::geojson_length(points, directory, rings)
 }
 
 // Writes the text of a ring set, one GeoJSON MultiPolygon, and answers its number of bytes. Bytes past the text stay, and a refusal changes nothing.
-pub fn write_geojson(points: &[u16], directory: &[u32], rings: u32, text: &mut [u8]) -> TextAnswer
+pub fn write_geojson(points: &[u16], directory: &[u32], rings: u32, text: &mut [u8]) -> Result<u64, Refusal>
     ensures value { result ≡ written_answer points.now directory.now rings text.old }
     ensures text_after { text.new ≡ text_after points.now directory.now rings text.old }
 {
@@ -235,7 +235,7 @@ pub fn write_geojson(points: &[u16], directory: &[u32], rings: u32, text: &mut [
 
 // What becomes of a ring of a contour, by the points of a ring set and not by the words of its records: polygon, hole of a polygon with what that answers, or
 // dropped. Every polygon numbered lower than an owner answers -1.
-pub fn ring_fate(points: &[u16], directory: &[u32], rings: u32, ring: u32) -> RingFate
+pub fn ring_fate(points: &[u16], directory: &[u32], rings: u32, ring: u32) -> Result<RingFate, Refusal>
     ensures { FateFound points.now directory.now rings ring result }
 {
     explaining::ring_fate(points, directory, rings, ring)
@@ -248,7 +248,7 @@ pub fn polygon_answer(
     rings: u32,
     polygon: u32,
     ring: u32,
-) -> PolygonAnswer
+) -> Result<Decision, Refusal>
     ensures { result ≡ polygon_answer points.now directory.now rings polygon ring }
 {
     explaining::polygon_answer(points, directory, rings, polygon, ring)
@@ -265,7 +265,7 @@ pub fn smoothed_vertex(
     rings: u32,
     ring: u32,
     vertex: u32,
-) -> VertexAnswer
+) -> Result<VertexMoves, Refusal>
     ensures { result ≡ vertex_answer values.now level.threshold dx dy points.now directory.now rings ring vertex }
 {
     explaining::smoothed_vertex(

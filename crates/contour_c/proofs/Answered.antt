@@ -11,31 +11,28 @@ use Rattle.scope.specs.declared.Rule.{Rule}
 use Rattle.scope.specs.declared.Level.{Level}
 use Rattle.scope.specs.Smoothing.{Placing}
 use Rattle.scan.specs.declared.FirstReport.{FirstReport}
-use Rattle.scan.specs.declared.FirstReport.TheVariants as first-is
 use Rattle.isoringbuilder.specs.Answers.{SecondReported, RingsBuilt}
 use Rattle.isoringbuilder.specs.declared.SecondReport.{SecondReport}
-use Rattle.isoringbuilder.specs.declared.SecondReport.TheVariants as second_is
-use Rattle.isoringbuilder.specs.declared.Built.{Built}
-use Rattle.isoringbuilder.specs.declared.Built.TheVariants as built-is
 use Rattle.bands.specs.Bands.{BandReported, BandBuilt}
 use Rattle.contourbuilder.specs.Contours.{ContoursBuilt}
 use Rattle.linebuilder.specs.Lines.{LinesBuilt}
 use Rattle.contour.proofs.Theorems.{one_answer, one-second-report, one-build, one-contours, one-lines}
 use Rattle.contour.proofs.Bands.{one-band-report, one-isobands}
 use Rattle.contour_c.specs.Rings.{first_status, first_segments, first_peak, second_status, second_segments, second_rings, second_peak, second_points, built_status, built_rings, SecondEntry, RingsEntry}
+use Rattle.std.specs.Prelude.{Result, Ok, Err}
 
-pub first-given : (s h old old' : ℕ) {found answer : FirstReport} → found ≡ first-is.Room s h → found ≡ answer → (0 ≡ first_status answer) × ((s ≡ first_segments old answer) × (h ≡ first_peak old' answer))
+pub first-given : (s h old old' : ℕ) {found answer : Result FirstReport Refusal} → found ≡ Ok (record { segments = s; peak = h }) → found ≡ answer → (0 ≡ first_status answer) × ((s ≡ first_segments old answer) × (h ≡ first_peak old' answer))
 unfolding first_status first_segments first_peak
 first-given s h old old' is e = let is-answer = sym is ∙ e in (ap first_status is-answer, (ap (first_segments old) is-answer, ap (first_peak old') is-answer))
 
-pub first-kept : (why : Refusal) (status old old' : ℕ) {found answer : FirstReport} → found ≡ first-is.Refused why → found ≡ answer → status ≡ refusal_number why
+pub first-kept : (why : Refusal) (status old old' : ℕ) {found answer : Result FirstReport Refusal} → found ≡ Err why → found ≡ answer → status ≡ refusal_number why
     → (status ≡ first_status answer) × ((old ≡ first_segments old answer) × (old' ≡ first_peak old' answer))
 unfolding first_status first_segments first_peak
 first-kept why status old old' is e k = let is-answer = sym is ∙ e in (k ∙ ap first_status is-answer, (ap (first_segments old) is-answer, ap (first_peak old') is-answer))
 
 -- a second report, and a build, of which the library ensures anything
-module _ {Reported : SecondReport → List ℕ → List ℕ → Type 0} {lines' links' : List ℕ} where
-  pub second-given : (s r h p segments rings peak points : ℕ) (answer : SecondReport) → answer ≡ second_is.Room s r h p → Reported answer lines' links' → SecondEntry Reported segments rings peak points 0 lines' links' s r h p
+module _ {Reported : Result SecondReport Refusal → List ℕ → List ℕ → Type 0} {lines' links' : List ℕ} where
+  pub second-given : (s r h p segments rings peak points : ℕ) (answer : Result SecondReport Refusal) → answer ≡ Ok (record { segments = s; rings = r; peak = h; points = p }) → Reported answer lines' links' → SecondEntry Reported segments rings peak points 0 lines' links' s r h p
   unfolding second_status second_segments second_rings second_peak second_points
   second-given s r h p segments rings peak points answer e k = record {
     answer = answer;
@@ -47,7 +44,7 @@ module _ {Reported : SecondReport → List ℕ → List ℕ → Type 0} {lines' 
     points-are = ap (second_points points) (sym e);
   }
 
-  pub second-kept : (why : Refusal) (status segments rings peak points : ℕ) (answer : SecondReport) → answer ≡ second_is.Refused why → status ≡ refusal_number why → Reported answer lines' links'
+  pub second-kept : (why : Refusal) (status segments rings peak points : ℕ) (answer : Result SecondReport Refusal) → answer ≡ Err why → status ≡ refusal_number why → Reported answer lines' links'
       → SecondEntry Reported segments rings peak points status lines' links' segments rings peak points
   unfolding second_status second_segments second_rings second_peak second_points
   second-kept why status segments rings peak points answer e n k = record {
@@ -60,13 +57,13 @@ module _ {Reported : SecondReport → List ℕ → List ℕ → Type 0} {lines' 
     points-are = ap (second_points points) (sym e);
   }
 
-module _ {Word : Type 0} {BuiltAs : Built → List ℕ → List ℕ → List Word → List ℕ → Type 0} {lines' links' : List ℕ} {points' : List Word} {directory' : List ℕ} where
-  pub rings-given : (r rings : ℕ) (answer : Built) → answer ≡ built-is.Rings r → BuiltAs answer lines' links' points' directory' → RingsEntry BuiltAs rings 0 lines' links' points' directory' r
+module _ {Word : Type 0} {BuiltAs : Result ℕ Refusal → List ℕ → List ℕ → List Word → List ℕ → Type 0} {lines' links' : List ℕ} {points' : List Word} {directory' : List ℕ} where
+  pub rings-given : (r rings : ℕ) (answer : Result ℕ Refusal) → answer ≡ Ok r → BuiltAs answer lines' links' points' directory' → RingsEntry BuiltAs rings 0 lines' links' points' directory' r
   unfolding built_status built_rings
   rings-given r rings answer e k =
       record { answer = answer; built = k; status-is = ap built_status (sym e); rings-are = ap (built_rings rings) (sym e) }
 
-  pub rings-kept : (why : Refusal) (status rings : ℕ) (answer : Built) → answer ≡ built-is.Refused why → status ≡ refusal_number why → BuiltAs answer lines' links' points' directory'
+  pub rings-kept : (why : Refusal) (status rings : ℕ) (answer : Result ℕ Refusal) → answer ≡ Err why → status ≡ refusal_number why → BuiltAs answer lines' links' points' directory'
       → RingsEntry BuiltAs rings status lines' links' points' directory' rings
   unfolding built_status built_rings
   rings-kept why status rings answer e n k =
@@ -75,12 +72,12 @@ module _ {Word : Type 0} {BuiltAs : Built → List ℕ → List ℕ → List Wor
 -- ---- one result
 
 -- two results that meet the contract of contour_first_report, or that of contour_band_first_report, on the same entry are equal
-pub one-first-entry : (answer : FirstReport) (s h : ℕ) {p q ps ph qs qh : ℕ} → (p ≡ first_status answer) × (ps ≡ first_segments s answer) × (ph ≡ first_peak h answer)
+pub one-first-entry : (answer : Result FirstReport Refusal) (s h : ℕ) {p q ps ph qs qh : ℕ} → (p ≡ first_status answer) × (ps ≡ first_segments s answer) × (ph ≡ first_peak h answer)
     → (q ≡ first_status answer) × (qs ≡ first_segments s answer) × (qh ≡ first_peak h answer) → (p ≡ q) × (ps ≡ qs) × (ph ≡ qh)
 one-first-entry answer s h a b = (one_answer a.0 b.0, one_answer a.1 b.1, one_answer a.2 b.2)
 
 -- where the library's answers and tables are equal, so is what the entry returns and leaves
-module _ {Reported : SecondReport → List ℕ → List ℕ → Type 0} where
+module _ {Reported : Result SecondReport Refusal → List ℕ → List ℕ → Type 0} where
   one-report : {s r h n : ℕ} {p q : ℕ} {pl pk ql qk : List ℕ} {ps pr ph pn qs qr qh qn : ℕ} (a : SecondEntry Reported s r h n p pl pk ps pr ph pn) (b : SecondEntry Reported s r h n q ql qk qs qr qh qn)
       → (a.answer ≡ b.answer) × (pl ≡ ql) × (pk ≡ qk) → (p ≡ q) × (pl ≡ ql) × (pk ≡ qk) × (ps ≡ qs) × (pr ≡ qr) × (ph ≡ qh) × (pn ≡ qn)
   one-report {s} {r} {h} {n} a b same = (
@@ -93,7 +90,7 @@ module _ {Reported : SecondReport → List ℕ → List ℕ → Type 0} where
     a.points-are ∙ ap (second_points n) same.0 ∙ sym b.points-are,
   )
 
-module _ {Word : Type 0} {BuiltAs : Built → List ℕ → List ℕ → List Word → List ℕ → Type 0} where
+module _ {Word : Type 0} {BuiltAs : Result ℕ Refusal → List ℕ → List ℕ → List Word → List ℕ → Type 0} where
   one-built : {r p q : ℕ} {pl pk ql qk : List ℕ} {pp qp : List Word} {pd qd : List ℕ} {pr qr : ℕ} (a : RingsEntry BuiltAs r p pl pk pp pd pr) (b : RingsEntry BuiltAs r q ql qk qp qd qr)
       → (a.answer ≡ b.answer) × (pl ≡ ql) × (pk ≡ qk) × (pp ≡ qp) × (pd ≡ qd) → (p ≡ q) × (pl ≡ ql) × (pk ≡ qk) × (pp ≡ qp) × (pd ≡ qd) × (pr ≡ qr)
   one-built {r} a b same =

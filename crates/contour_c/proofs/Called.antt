@@ -9,8 +9,6 @@ use lib.ListN.{length}
 use Rattle.scope.specs.declared.Level.{Level}
 use Rattle.error.specs.Number.{refusal_number}
 use Rattle.error.specs.declared.Refusal.{Refusal}
-use Rattle.isoringbuilder.specs.declared.Built.{Built}
-use Rattle.isoringbuilder.specs.declared.Built.TheVariants as built-is
 use Rattle.rows.specs.Called.{Outcome}
 use Rattle.rows.specs.Values.{outcome_of}
 use Rattle.rows.specs.declared.Rows.{Rows}
@@ -19,22 +17,23 @@ use Rattle.rowstate.specs.Words.{state_in, state_out}
 use Rattle.rowstate.proofs.NextCall.{Stored, stored-is-read}
 use Rattle.contour_c.specs.Rings.{built_status, built_rings}
 use Rattle.contour_c.specs.ByRow.{state_words, RowEntry}
+use Rattle.std.specs.Prelude.{Result, Ok, Err}
 
 -- ---- by the answer
 
-module _ (words : List ℕ) (s : Rows) (rings : ℕ) {answer : Built} where
-  pub call-taken : (n : ℕ) {words' : List ℕ} → answer ≡ built-is.Rings n → words' ≡ state_out s words → (0 ≡ built_status answer) × ((words' ≡ state_words words s answer) × (n ≡ built_rings rings answer))
+module _ (words : List ℕ) (s : Rows) (rings : ℕ) {answer : Result ℕ Refusal} where
+  pub call-taken : (n : ℕ) {words' : List ℕ} → answer ≡ Ok n → words' ≡ state_out s words → (0 ≡ built_status answer) × ((words' ≡ state_words words s answer) × (n ≡ built_rings rings answer))
   unfolding built_status state_words built_rings
   call-taken n is stored = (ap built_status (sym is), (stored ∙ ap (state_words words s) (sym is), ap (built_rings rings) (sym is)))
 
-  pub call-refused : (why : Refusal) {status : ℕ} → answer ≡ built-is.Refused why → status ≡ refusal_number why → (status ≡ built_status answer) × ((words ≡ state_words words s answer) × (rings ≡ built_rings rings answer))
+  pub call-refused : (why : Refusal) {status : ℕ} → answer ≡ Err why → status ≡ refusal_number why → (status ≡ built_status answer) × ((words ≡ state_words words s answer) × (rings ≡ built_rings rings answer))
   unfolding built_status state_words built_rings
   call-refused why is number = (number ∙ ap built_status (sym is), (ap (state_words words s) (sym is), ap (built_rings rings) (sym is)))
 
 -- ---- by the step that a call comes to
 
 -- a begin
-pub begun-entry : (step : Step) (words : List ℕ) (s : Rows) (answer : Built) {status : ℕ} {words' : List ℕ} → step ≡ record { state = s; answer = answer }
+pub begun-entry : (step : Step) (words : List ℕ) (s : Rows) (answer : Result ℕ Refusal) {status : ℕ} {words' : List ℕ} → step ≡ record { state = s; answer = answer }
     → status ≡ built_status step.answer → words' ≡ state_words words step.state step.answer → (status ≡ built_status answer) × (words' ≡ state_words words s answer)
 begun-entry step words s answer begun status-is words_are =
     (status-is ∙ ap (λ (t : Step). built_status t.answer) begun, words_are ∙ ap (λ (t : Step). state_words words t.state t.answer) begun)
@@ -60,7 +59,7 @@ module _ (call : Rows → Outcome) (held : Rows) {found : Rows} (same-state : fo
 
 -- where a row or an end is taken, the words hold its state; `NextCall` of `rowstate` says which states are stored, begin's among them
 pub next-call-reads : {o : Outcome} {words : List ℕ} {rings status : ℕ} {words' lines' links' points' directory' : List ℕ} {rings' : ℕ} (level : Level) (n : ℕ)
-    → RowEntry o words rings status words' lines' links' points' directory' rings' → o.answer ≡ built-is.Rings n → Stored level o.state → T (fits binary64 level.threshold) → length words ≡ 141
+    → RowEntry o words rings status words' lines' links' points' directory' rings' → o.answer ≡ Ok n → Stored level o.state → T (fits binary64 level.threshold) → length words ≡ 141
     → state_in words' ≡ o.state
 unfolding state_words
 next-call-reads {o} {words} level n entry is stored held room =

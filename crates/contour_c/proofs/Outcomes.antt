@@ -11,10 +11,10 @@ use Rattle.error.specs.declared.Refusal.{Refusal}
 use Rattle.error.specs.declared.Refusal.TheVariants.{BadRing}
 use Rattle.scope.specs.Containment.{Answer, outside, boundary, inside, answer_number}
 use Rattle.area.specs.Answers.{place_of}
-use Rattle.area.specs.declared.AreaAnswer.TheVariants as area-is
 use Rattle.area.specs.declared.Containment.{Containment}
 use Rattle.area.specs.declared.Containment.TheVariants as place_is
 use Rattle.contour_c.specs.Entries.{status_of}
+use Rattle.std.specs.Prelude.{Result, Ok, Err}
 
 -- an enum made of a refusal or of a value, and the value's number: what was made tells what it was made of
 pub record Outcome {Value Made : Type 0} (refuse : Refusal → Made) (give : Value → Made) (number : Value → ℤ) : Type 0 where
@@ -38,7 +38,7 @@ module _ {Value Made : Type 0} {refuse : Refusal → Made} {give : Value → Mad
   kept false f e = absurd (o.apart f v (sym e))
 
 -- an area
-pub areas : Outcome area-is.Refused area-is.Area (λ z. z)
+pub areas : Outcome Err Ok (λ z. z)
 areas =
     record {
       apart = λ f v e. let z : ◌≡◌ {A = ℕ} 0 1 = cc in omega arith;
@@ -47,11 +47,11 @@ areas =
     }
 
 -- the number that a place was given for
-number_in : Containment → ℤ
-number_in place_is.Outside = negsuc 0
-number_in place_is.Boundary = pos 0
-number_in place_is.Inside = pos 1
-number_in (place_is.Refused f) = pos 0
+number_in : Result Containment Refusal → ℤ
+number_in (Ok place_is.Outside) = negsuc 0
+number_in (Ok place_is.Boundary) = pos 0
+number_in (Ok place_is.Inside) = pos 1
+number_in (Err f) = pos 0
 
 -- it is the number of the answer
 number-back : (v : Answer) → answer_number v ≡ number_in (place_of v)
@@ -61,14 +61,14 @@ number-back boundary = refl
 number-back inside = refl
 
 -- an answer is no refusal
-place-apart : (f : Refusal) (v : Answer) → place_of v ≡ place_is.Refused f → ⊥
+place-apart : (f : Refusal) (v : Answer) → place_of v ≡ Err f → ⊥
 unfolding place_of
 place-apart f outside e = let z : ◌≡◌ {A = ℕ} 0 1 = cc in omega arith
 place-apart f boundary e = let z : ◌≡◌ {A = ℕ} 0 1 = cc in omega arith
 place-apart f inside e = let z : ◌≡◌ {A = ℕ} 0 1 = cc in omega arith
 
 -- a ring against a ring, with document 01's -1, 0 and 1
-pub places : Outcome place_is.Refused place_of answer_number
+pub places : Outcome Err place_of answer_number
 places =
     record {
       apart = place-apart;

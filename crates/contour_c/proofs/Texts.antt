@@ -7,16 +7,15 @@ use Rattle.error.specs.Number.{refusal_number}
 use Rattle.error.specs.declared.Refusal.{Refusal}
 use Rattle.scope.specs.GeoJson.{ring_set_refused}
 use Rattle.geojson.specs.Written.{length_answer, written_answer, text_after}
-use Rattle.geojson.specs.declared.TextAnswer.{TextAnswer}
-use Rattle.geojson.specs.declared.TextAnswer.TheVariants as text-is
 use Rattle.contour.proofs.Theorems.{one_answer}
 use Rattle.contour_c.specs.Texts.{check_status, text_status, text_length}
+use Rattle.std.specs.Prelude.{Result, Ok, Err}
 
-pub text-given : (n old : ℕ) {found answer : TextAnswer} → found ≡ text-is.Bytes n → found ≡ answer → (0 ≡ text_status answer) × (n ≡ text_length old answer)
+pub text-given : (n old : ℕ) {found answer : Result ℕ Refusal} → found ≡ Ok n → found ≡ answer → (0 ≡ text_status answer) × (n ≡ text_length old answer)
 unfolding text_status text_length
 text-given n old is e = let is-answer = sym is ∙ e in (ap text_status is-answer, ap (text_length old) is-answer)
 
-pub text-kept : (why : Refusal) (status old : ℕ) {found answer : TextAnswer} → found ≡ text-is.Refused why → found ≡ answer → status ≡ refusal_number why
+pub text-kept : (why : Refusal) (status old : ℕ) {found answer : Result ℕ Refusal} → found ≡ Err why → found ≡ answer → status ≡ refusal_number why
     → (status ≡ text_status answer) × (old ≡ text_length old answer)
 unfolding text_status text_length
 text-kept why status old is e k = let is-answer = sym is ∙ e in (k ∙ ap text_status is-answer, ap (text_length old) is-answer)

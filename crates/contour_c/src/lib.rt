@@ -42,11 +42,11 @@ pub extern "C" fn contour_area(ring: &[u16], area: &mut i64) -> u32
     ensures area_after { area.new ≡ area_output ring.now area.old }
 {
     match area::area(ring) {
-        AreaAnswer::Area(found) => {
+        Ok(found) => {
             *area = found;
             0
         }
-        AreaAnswer::Refused(refusal) => error::number(refusal),
+        Err(refusal) => error::number(refusal),
     }
 }
 
@@ -69,7 +69,7 @@ pub extern "C" fn contour_contains(outer: &[u16], tested: &[u16], answer: &mut i
             *answer = -1;
             0
         }
-        Containment::Refused(refusal) => error::number(refusal),
+        Err(refusal) => error::number(refusal),
     }
 }
 
@@ -98,7 +98,7 @@ pub extern "C" fn contour_first_report(
             *peak = highest;
             0
         }
-        FirstReport::Refused(refusal) => error::number(refusal),
+        Err(refusal) => error::number(refusal),
     }
 }
 
@@ -135,7 +135,7 @@ pub extern "C" fn contour_second_report(
             *points = placed;
             0
         }
-        SecondReport::Refused(refusal) => error::number(refusal),
+        Err(refusal) => error::number(refusal),
     }
 }
 
@@ -158,11 +158,11 @@ pub extern "C" fn contour_rings(
 {
     let level = level_of(threshold, rule);
     match isoringbuilder::contour_rings(values, level, dx, dy, lines, links, points, directory) {
-        Built::Rings(count) => {
+        Ok(count) => {
             *rings = count;
             0
         }
-        Built::Refused(refusal) => error::number(refusal),
+        Err(refusal) => error::number(refusal),
     }
 }
 
@@ -174,12 +174,12 @@ fn settle(step: Step, state: &mut [u32; STATE_WORDS], rings: &mut u32) -> u32
 {
     let answer = step.answer;
     match answer {
-        Built::Rings(count) => {
+        Ok(count) => {
             store_state(step.state, state);
             *rings = count;
             0
         }
-        Built::Refused(why) => error::number(why),
+        Err(why) => error::number(why),
     }
 }
 
@@ -279,11 +279,11 @@ pub extern "C" fn contour_lines(
         points,
         directory,
     ) {
-        Built::Rings(count) => {
+        Ok(count) => {
             *rings = count;
             0
         }
-        Built::Refused(refusal) => error::number(refusal),
+        Err(refusal) => error::number(refusal),
     }
 }
 
@@ -306,11 +306,11 @@ pub extern "C" fn contour_contours(
 {
     let level = level_of(threshold, rule);
     match contourbuilder::contours(values, level, dx, dy, lines, links, points, directory) {
-        Built::Rings(count) => {
+        Ok(count) => {
             *rings = count;
             0
         }
-        Built::Refused(refusal) => error::number(refusal),
+        Err(refusal) => error::number(refusal),
     }
 }
 
@@ -339,7 +339,7 @@ pub extern "C" fn contour_band_first_report(
             *peak = highest;
             0
         }
-        FirstReport::Refused(refusal) => error::number(refusal),
+        Err(refusal) => error::number(refusal),
     }
 }
 
@@ -377,7 +377,7 @@ pub extern "C" fn contour_band_second_report(
             *points = total;
             0
         }
-        SecondReport::Refused(refusal) => error::number(refusal),
+        Err(refusal) => error::number(refusal),
     }
 }
 
@@ -412,11 +412,11 @@ pub extern "C" fn contour_isobands(
         points,
         directory,
     ) {
-        Built::Rings(count) => {
+        Ok(count) => {
             *rings = count;
             0
         }
-        Built::Refused(refusal) => error::number(refusal),
+        Err(refusal) => error::number(refusal),
     }
 }
 
@@ -443,11 +443,11 @@ pub extern "C" fn contour_geojson_length(
     ensures length_after { length.new ≡ text_length length.old (length_answer points.now directory.now rings) }
 {
     match geojson::geojson_length(points, directory, rings) {
-        TextAnswer::Bytes(needed) => {
+        Ok(needed) => {
             *length = needed;
             0
         }
-        TextAnswer::Refused(refusal) => error::number(refusal),
+        Err(refusal) => error::number(refusal),
     }
 }
 
@@ -465,11 +465,11 @@ pub extern "C" fn contour_geojson(
     ensures length_after { length.new ≡ text_length length.old (written_answer points.now directory.now rings text.old) }
 {
     match geojson::write_geojson(points, directory, rings, text) {
-        TextAnswer::Bytes(bytes) => {
+        Ok(bytes) => {
             *length = bytes;
             0
         }
-        TextAnswer::Refused(refusal) => error::number(refusal),
+        Err(refusal) => error::number(refusal),
     }
 }
 

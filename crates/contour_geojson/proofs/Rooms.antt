@@ -22,7 +22,6 @@ use Rattle.laws.proofs.Edges.{Outside}
 use Rattle.laws.proofs.Laws.{the-peak-is-low, points-are-segments-and-rings}
 use Rattle.laws.proofs.Bounds.{segments-are-no-more-than-pairs}
 use Rattle.grid.specs.Grid.{Sized, grid_fit}
-use Rattle.grid.specs.declared.GridFit.TheVariants as fit_is
 use Rattle.grid.proofs.Laws.{a-right-count-fits}
 use Rattle.scan.proofs.Samples.{terrain-outside}
 use Rattle.ringset.proofs.Laws.{sound}
@@ -30,14 +29,13 @@ use Rattle.readable.proofs.Laws.{contour-passes}
 use Rattle.readable.proofs.Past.{text-without-what-is-behind}
 use Rattle.readable.proofs.Counts.{counts-are-points}
 use Rattle.geotext.proofs.Bounds.{text-is-short}
-use Rattle.isoringbuilder.specs.declared.Built.{Built}
-use Rattle.isoringbuilder.specs.declared.Built.TheVariants as built-is
 use Rattle.contourbuilder.specs.Contours.{ContoursBuilt}
 use Rattle.contourbuilder.proofs.Sizes.{fours}
 use Rattle.contour.proofs.Results.{given}
 use Rattle.contour.proofs.Theorems.{contours-constructed, contours-exactly}
 use Rattle.contour.proofs.Checked.{grid-rings-fit}
 use Rattle.contour_geojson.specs.Drawing.{text_room, Small, Roomy, Writable, Stands}
+use Rattle.std.specs.Prelude.{Result, Ok, Err}
 
 module _ (values : List Float) (level : Level) (dx dy : ℕ) (small : Small values dx dy) where
   abbrev A : Sheet
@@ -49,7 +47,7 @@ module _ (values : List Float) (level : Level) (dx dy : ℕ) (small : Small valu
   outside : Outside A dx dy
   outside = terrain-outside (above_at level) values dx dy
 
-  fits : grid_fit (length values) dx dy ≡ fit_is.Fits
+  fits : grid_fit (length values) dx dy ≡ Ok tt
   unfolding program_side side_limit
   fits = sym (a-right-count-fits (length values) dx dy small.some-columns (omega (arith, small.columns)) small.some-rows (omega (arith, small.rows)) small.all-values)
 
@@ -94,9 +92,9 @@ module _ (values : List Float) (level : Level) (dx dy : ℕ) (small : Small valu
 
   -- ---- a build over tables that have the room
 
-  module _ {lines links points directory text : List ℕ} (room : Roomy lines links points directory text) {answer : Built} {lines' links' points' directory' : List ℕ}
+  module _ {lines links points directory text : List ℕ} (room : Roomy lines links points directory text) {answer : Result ℕ Refusal} {lines' links' points' directory' : List ℕ}
       (k : ContoursBuilt values level dx dy lines links points directory answer lines' links' points' directory') where
-    pub all-rings : answer ≡ built-is.Rings (ring_count A dx dy)
+    pub all-rings : answer ≡ Ok (ring_count A dx dy)
     unfolding open_words link_words point_count point_words directory_words record_stride program_side
     all-rings =
         (contours-exactly values level dx dy lines links points directory k).1.given-exactly.0 (
@@ -105,7 +103,7 @@ module _ (values : List Float) (level : Level) (dx dy : ℕ) (small : Small valu
           omega (arith, room.directory-room, rings-within),
         )
 
-    pub no-refusal : {why : Refusal} {X : Type 0} → answer ≡ built-is.Refused why → X
+    pub no-refusal : {why : Refusal} {X : Type 0} → answer ≡ Err why → X
     no-refusal e = absurd (let z : ◌≡◌ {A = ℕ} 0 1 = cc all-rings in omega arith)
 
     tables-are : (ring_set_refused points' directory' (ring_count A dx dy) ≡ false) × (geo_json_text points' directory' (ring_count A dx dy) ≡ contour_text A dx dy)
@@ -117,9 +115,9 @@ module _ (values : List Float) (level : Level) (dx dy : ℕ) (small : Small valu
         rw (g.points-are, g.directory-is)
         (contour-passes rings (grid-rings-fit values level dx dy fits) pp pd, text-without-what-is-behind (packed_points rings) (contour_records rings) (length rings) (sound (packed_points rings) (contour_records rings) (length rings) passes-nine) pp pd)
 
-    module _ {n : ℕ} (is : answer ≡ built-is.Rings n) where
+    module _ {n : ℕ} (is : answer ≡ Ok n) where
       rings-are : n ≡ ring_count A dx dy
-      rings-are = let e : built-is.Rings n ≡ built-is.Rings (ring_count A dx dy) = sym is ∙ all-rings in cc
+      rings-are = let e : Ok n ≡ Ok (ring_count A dx dy) = sym is ∙ all-rings in cc
 
       pub text-is-the-contours : geo_json_text points' directory' n ≡ contour_text A dx dy
       text-is-the-contours = ap (geo_json_text points' directory') rings-are ∙ tables-are.1

@@ -14,8 +14,6 @@ use Rattle.scope.specs.Tables.{written}
 use Rattle.scope.specs.GeoJson.{geo_json_text}
 use Rattle.scope.specs.Program.{program_side, Input, input_sheet, contour_text, program_text}
 use Rattle.geojson.specs.Written.{written_answer, text_after}
-use Rattle.geojson.specs.declared.TextAnswer.{TextAnswer}
-use Rattle.geojson.specs.declared.TextAnswer.TheVariants.{Bytes, Refused}
 use Rattle.geojson.proofs.Laws.{WritingExact, writing-exact}
 use Rattle.reading.specs.Reads.{TerrainRead, InputRead}
 use Rattle.reading.specs.declared.Reading.{Reading}
@@ -24,21 +22,22 @@ use Rattle.reading.proofs.Inputs.{one-reading}
 use Rattle.contour_geojson.specs.Drawing.{Small, Writable, Stands, InputDrawn}
 use Rattle.contour_geojson.specs.declared.Drawn.{Drawn}
 use Rattle.contour_geojson.specs.declared.Drawn.TheVariants as drawn-is
+use Rattle.std.specs.Prelude.{Result, Ok, Err}
 
 -- ---- a set that the writer takes
 
-module _ {ps directory : List ℕ} {rings : ℕ} {text : List ℕ} (w : Writable ps directory rings text) {answer : TextAnswer} {text' : List ℕ}
+module _ {ps directory : List ℕ} {rings : ℕ} {text : List ℕ} (w : Writable ps directory rings text) {answer : Result ℕ Refusal} {text' : List ℕ}
     (answers : answer ≡ written_answer ps directory rings text) (text-is : text' ≡ text_after ps directory rings text) where
   exactly : WritingExact ps directory rings text answer text'
   exactly = writing-exact (record { answers = answers; text-is = text-is })
 
-  is-written : answer ≡ Bytes (length (geo_json_text ps directory rings))
+  is-written : answer ≡ Ok (length (geo_json_text ps directory rings))
   is-written = exactly.written-exactly.0 (w.passes-nine, w.room)
 
-  pub never-refused : {why : Refusal} {X : Type 0} → answer ≡ Refused why → X
+  pub never-refused : {why : Refusal} {X : Type 0} → answer ≡ Err why → X
   never-refused e = absurd (let z : ◌≡◌ {A = ℕ} 0 1 = cc is-written in omega arith)
 
-  pub set-stands : {n : ℕ} → answer ≡ Bytes n → Stands (geo_json_text ps directory rings) text n text'
+  pub set-stands : {n : ℕ} → answer ≡ Ok n → Stands (geo_json_text ps directory rings) text n text'
   set-stands e = record { answer-is = (cc is-written); text-is = exactly.text-stands-first e }
 
 -- ---- what was read

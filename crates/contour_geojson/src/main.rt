@@ -47,8 +47,8 @@ fn write_rings(points: &[u16], directory: &[u32], rings: u32, text: &mut [u8]) -
     ensures { Stands (geo_json_text points.now directory.now rings) text.old result text.new }
 {
     match write_geojson(points, directory, rings, text) {
-        TextAnswer::Refused(_) => 0,
-        TextAnswer::Bytes(length) => length,
+        Err(_) => 0,
+        Ok(length) => length,
     }
 }
 
@@ -72,8 +72,8 @@ fn write_over(
         rule: Rule::AtLeast,
     };
     match contours(values, level, dx, dy, lines, links, points, directory) {
-        Built::Refused(_) => 0,
-        Built::Rings(rings) => write_rings(points, directory, rings, text),
+        Err(_) => 0,
+        Ok(rings) => write_rings(points, directory, rings, text),
     }
 }
 

@@ -29,19 +29,13 @@ use Rattle.extents.specs.Records.{record_count}
 use Rattle.regions.specs.Regions.{counted_rings, sorted_by, Workable}
 use Rattle.spreading.proofs.Laws.{written_over}
 use Rattle.grid.specs.Grid.{Sized}
-use Rattle.grid.specs.declared.GridFit.{GridFit}
-use Rattle.grid.specs.declared.GridFit.TheVariants as fit_is
 use Rattle.isoringbuilder.specs.Verdict.{Verdict, refused, passes, after_grid}
 use Rattle.isoringbuilder.specs.Answers.{work_after, output_after}
 use Rattle.isoringbuilder.specs.Pass.{stitched_tables, pass_table, packed}
-use Rattle.isoringbuilder.specs.declared.Built.{Built}
-use Rattle.isoringbuilder.specs.declared.Built.TheVariants as built-is
 use Rattle.isoringbuilder.proofs.Limits.{outside}
 use Rattle.bands.specs.Bands.{band_verdict, band_room, band_outputs, band_built, BuiltOver}
 use Rattle.bands.specs.Passing.{after_upper, band_drawing, BandPassed, stored_from, BandPacked}
 use Rattle.bands.specs.declared.BandDrawing.{BandDrawing}
-use Rattle.bands.specs.declared.BandPass.{BandPass}
-use Rattle.bands.specs.declared.BandPass.TheVariants as pass-is
 use Rattle.bands.proofs.Stitched.{StitchedOver, stitched-over, few-segments}
 use Rattle.bands.proofs.Passes.{open-needs, link-needs}
 use Rattle.bands.proofs.Reports.{both-fit, BandDone, band-refused, two, lines_long, links-long, lines-past, links-past, open-words-are, link-words-are}
@@ -50,6 +44,7 @@ use Rattle.contourbuilder.proofs.Lengths.{packed-both, band-length}
 use Rattle.contourbuilder.proofs.Laid.{Drawn, Laid, rings-are, workable}
 use Rattle.contourbuilder.proofs.Sizes.{bare-count, fours, rings-drawn, points-are}
 use Rattle.contourbuilder.proofs.Contoured.{written-front, cleared-same}
+use Rattle.std.specs.Prelude.{Result, Ok, Err}
 
 -- ---- two runs of words
 
@@ -103,11 +98,11 @@ same-records lower upper = refl
 -- ---- from the passes to the contract
 
 -- a build of a refused fit
-pub isobands-unfit : (fit : GridFit) (why : Refusal) → fit ≡ fit_is.Refused why → (L U : Sheet) (dx dy : ℕ) (lines links points directory : List ℕ)
-    → BuiltOver fit L U dx dy lines links points directory (built-is.Refused why) lines links points directory
+pub isobands-unfit : (fit : Result (Unit {0}) Refusal) (why : Refusal) → fit ≡ Err why → (L U : Sheet) (dx dy : ℕ) (lines links points directory : List ℕ)
+    → BuiltOver fit L U dx dy lines links points directory (Err why) lines links points directory
 unfolding band_verdict after_grid band_built work_after output_after
 isobands-unfit fit why e L U dx dy lines links points directory =
-    subst (λ (f : GridFit). BuiltOver f L U dx dy lines links points directory (built-is.Refused why) lines links points directory) (sym e)
+    subst (λ (f : Result (Unit {0}) Refusal). BuiltOver f L U dx dy lines links points directory (Err why) lines links points directory) (sym e)
     (record { answers = refl; lines_are = refl; links-are = refl; points-are = refl; directory-is = refl })
 
 module _ (values : List Float) (lower upper : Level) (dx dy : ℕ) (lines links : List ℕ) where
@@ -117,8 +112,8 @@ module _ (values : List Float) (lower upper : Level) (dx dy : ℕ) (lines links 
   abbrev U : Sheet
   U = terrain (above_at upper) values dx dy
 
-  pub isobands-refused : (answer : BandPass) (why : Refusal) → answer ≡ pass-is.Refused why → (lines' links' marks' : List ℕ) → BandPassed values lower upper dx dy lines links answer lines' links' marks'
-      → (points directory : List ℕ) → BuiltOver fit_is.Fits L U dx dy lines links points directory (built-is.Refused why) lines' links' points directory
+  pub isobands-refused : (answer : Result BandDrawing Refusal) (why : Refusal) → answer ≡ Err why → (lines' links' marks' : List ℕ) → BandPassed values lower upper dx dy lines links answer lines' links' marks'
+      → (points directory : List ℕ) → BuiltOver (Ok tt) L U dx dy lines links points directory (Err why) lines' links' points directory
   unfolding band_built work_after output_after
   isobands-refused answer why is lines' links' marks' k points directory =
       let facts = band-refused values lower upper dx dy lines links answer why is lines' links' marks' k in
@@ -132,7 +127,7 @@ module _ (values : List Float) (lower upper : Level) (dx dy : ℕ) (lines links 
       }
 
   module _ (sized : Sized (length values) dx dy) {drawing : BandDrawing} {lines₁ links₁ : List ℕ} (done : BandDone values lower upper dx dy lines links drawing lines₁ links₁)
-      (points directory : List ℕ) (answer : Built) (lines₂ links₂ points' directory₁ : List ℕ)
+      (points directory : List ℕ) (answer : Result ℕ Refusal) (lines₂ links₂ points' directory₁ : List ℕ)
       (packs : BandPacked (terrain (above_at lower) values dx dy) dx dy drawing lines₁ links₁ points directory answer lines₂ links₂ points' directory₁)
       (filled : ℕ) (filled-need : filled ≡ band_point_words drawing.lower_segments drawing.lower_rings drawing.upper_segments drawing.upper_rings) where
     abbrev outputs : Verdict
@@ -225,7 +220,7 @@ module _ (values : List Float) (lower upper : Level) (dx dy : ℕ) (lines links 
       unfolding band_outputs band_room
       room = both-fit PointsShort DirectoryShort (length points) (band_point_words (segment_count L dx dy) (ring_count L dx dy) (segment_count U dx dy) (ring_count U dx dy)) (length directory) (band_directory_words (ring_count L dx dy) (ring_count U dx dy)) is
 
-      answer-is : answer ≡ built-is.Rings (ring_count L dx dy + ring_count U dx dy)
+      answer-is : answer ≡ Ok (ring_count L dx dy + ring_count U dx dy)
       unfolding packed
       answer-is = packs.answers ∙ ap₂ packed (room-is ∙ is) rings-are-both
 
@@ -277,7 +272,7 @@ module _ (values : List Float) (lower upper : Level) (dx dy : ℕ) (lines links 
             ∙ both-counts (rings_of L dx dy) (rings_of U dx dy) (drop (length records) directory) lower-length r h;
       }
 
-      ownable-here : (words : ℕ) → words ≡ link-need → length links₂ ≡ length links → Ownable (built-is.Rings (ring_count L dx dy + ring_count U dx dy)) words links₂ filled points' directory₁
+      ownable-here : (words : ℕ) → words ≡ link-need → length links₂ ≡ length links → Ownable (Ok (ring_count L dx dy + ring_count U dx dy)) words links₂ filled points' directory₁
       unfolding Ownable band_link_words link_words
       ownable-here words need long₂ =
           let long : words ≤ length links₂ = omega (arith, need, long₂, done.links-fit) in
@@ -296,7 +291,7 @@ module _ (values : List Float) (lower upper : Level) (dx dy : ℕ) (lines links 
             room-here,
           )
 
-      owned-here : owned_directory true (built-is.Rings (ring_count L dx dy + ring_count U dx dy)) front directory₁ ≡ written (band_records (rings_of L dx dy) (rings_of U dx dy)) directory
+      owned-here : owned_directory true (Ok (ring_count L dx dy + ring_count U dx dy)) front directory₁ ≡ written (band_records (rings_of L dx dy) (rings_of U dx dy)) directory
       unfolding owned_directory records_by
       owned-here =
           ap (λ (n : ℕ). written (sorted_by record_of (counted_rings front directory₁ 0 n)) directory₁) (sym rings-length)
@@ -306,7 +301,7 @@ module _ (values : List Float) (lower upper : Level) (dx dy : ℕ) (lines links 
           (omega (arith, band-length (rings_of L dx dy) (rings_of U dx dy), records-length, length-append (rings_of L dx dy) (rings_of U dx dy)))
 
     module _ (why : Refusal) (is : outputs ≡ refused why) where
-      answer-refused : answer ≡ built-is.Refused why
+      answer-refused : answer ≡ Err why
       unfolding packed
       answer-refused = packs.answers ∙ ap (λ (v : Verdict). packed v (drawing.lower_rings + drawing.upper_rings)) (room-is ∙ is)
 
@@ -357,10 +352,10 @@ module _ (values : List Float) (lower upper : Level) (dx dy : ℕ) (lines links 
     directory-out : (v : Verdict) → outputs ≡ v → owned_directory true answer front directory₁ ≡ output_after passes outputs (band_records (rings_of L dx dy) (rings_of U dx dy)) directory
     unfolding output_after owned_directory
     directory-out passes e =
-        ap (λ (a : Built). owned_directory true a front directory₁) (answer-is e) ∙ owned-here e
+        ap (λ (a : Result ℕ Refusal). owned_directory true a front directory₁) (answer-is e) ∙ owned-here e
         ∙ sym (ap (λ (v : Verdict). output_after passes v (band_records (rings_of L dx dy) (rings_of U dx dy)) directory) e)
     directory-out (refused why) e =
-        ap (λ (a : Built). owned_directory true a front directory₁) (answer-refused why e) ∙ directory-spared why e
+        ap (λ (a : Result ℕ Refusal). owned_directory true a front directory₁) (answer-refused why e) ∙ directory-spared why e
         ∙ sym (ap (λ (v : Verdict). output_after passes v (band_records (rings_of L dx dy) (rings_of U dx dy)) directory) e)
 
     module _ (words most : ℕ) (words_are : words ≡ link_words most) (most-is : most ≡ max drawing.lower_segments drawing.upper_segments) where
@@ -372,11 +367,11 @@ module _ (values : List Float) (lower upper : Level) (dx dy : ℕ) (lines links 
       band-ownable = by outputs refl
         where
           by : (v : Verdict) → outputs ≡ v → Ownable answer words links₂ filled points' directory₁
-          by passes e = subst (λ (a : Built). Ownable a words links₂ filled points' directory₁) (sym (answer-is e)) (ownable-here e words need-is links-kept.0)
-          by (refused why) e = subst (λ (a : Built). Ownable a words links₂ filled points' directory₁) (sym (answer-refused why e)) tt
+          by passes e = subst (λ (a : Result ℕ Refusal). Ownable a words links₂ filled points' directory₁) (sym (answer-is e)) (ownable-here e words need-is links-kept.0)
+          by (refused why) e = subst (λ (a : Result ℕ Refusal). Ownable a words links₂ filled points' directory₁) (sym (answer-refused why e)) tt
 
       pub isobands-done : (links₃ directory' : List ℕ) → OwnersFound true answer words links₂ links₃ filled points' directory₁ directory' → (lines' links' : List ℕ) → lines' ≡ cleared lines₂ (open_words dx drawing.peak) → links' ≡ cleared links₃ words
-          → BuiltOver fit_is.Fits L U dx dy lines links points directory answer lines' links' points' directory'
+          → BuiltOver (Ok tt) L U dx dy lines links points directory answer lines' links' points' directory'
       unfolding work_after
       isobands-done links₃ directory' found lines' links' el ek =
           record {

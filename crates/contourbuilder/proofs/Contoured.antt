@@ -24,11 +24,7 @@ use Rattle.spreading.proofs.Laws.{written_over}
 use Rattle.isoringbuilder.specs.Verdict.{Verdict, refused, passes, room_verdict, output_verdict}
 use Rattle.isoringbuilder.specs.Answers.{output_after, built}
 use Rattle.isoringbuilder.specs.Pass.{stitched_tables, Passed, Packed}
-use Rattle.isoringbuilder.specs.declared.Pass.{Pass}
-use Rattle.isoringbuilder.specs.declared.Pass.TheVariants as pass-is
 use Rattle.isoringbuilder.specs.declared.Drawing.{Drawing}
-use Rattle.isoringbuilder.specs.declared.Built.{Built}
-use Rattle.isoringbuilder.specs.declared.Built.TheVariants as built-is
 use Rattle.isoringbuilder.proofs.Limits.{outside, segments-fit, peak-fits, points-fit}
 use Rattle.isoringbuilder.proofs.Laws.{Done, BuiltAs, refused-facts, rings-refused, short-done}
 use Rattle.contourbuilder.specs.Contours.{ContoursBuilt}
@@ -38,6 +34,7 @@ use Rattle.contourbuilder.proofs.Lengths.{contour-length}
 use Rattle.contourbuilder.proofs.Sizes.{bare-count, fours, rings-drawn, points-are}
 use Rattle.bands.proofs.Stitched.{few-segments}
 use Rattle.bands.proofs.Reports.{both-fit}
+use Rattle.std.specs.Prelude.{Result, Ok, Err}
 
 -- words that were written stand in front
 pub written-front : (words table : List ℕ) (n : ℕ) → n ≡ length words → (n ≤ length (written words table)) × (take n (written words table) ≡ words)
@@ -54,8 +51,8 @@ module _ (values : List Float) (level : Level) (dx dy : ℕ) (lines links : List
   abbrev A : Sheet
   A = terrain (above_at level) values dx dy
 
-  pub contours-refused : (answer : Pass) (why : Refusal) → answer ≡ pass-is.Refused why → (lines' links' : List ℕ) → Passed values level dx dy lines links answer lines' links' → (points directory : List ℕ)
-      → ContoursBuilt values level dx dy lines links points directory (built-is.Refused why) lines' links' points directory
+  pub contours-refused : (answer : Result Drawing Refusal) (why : Refusal) → answer ≡ Err why → (lines' links' : List ℕ) → Passed values level dx dy lines links answer lines' links' → (points directory : List ℕ)
+      → ContoursBuilt values level dx dy lines links points directory (Err why) lines' links' points directory
   unfolding output_after
   contours-refused answer why is lines' links' k points directory =
       let rings = rings-refused values level dx dy lines links answer why is lines' links' k points directory in
@@ -68,7 +65,7 @@ module _ (values : List Float) (level : Level) (dx dy : ℕ) (lines links : List
         directory-is = ap (λ (v : Verdict). output_after v (output_verdict A dx dy (length points) (length directory)) (contour_records (rings_of A dx dy)) directory) (sym facts.0);
       }
 
-  module _ (drawing : Drawing) (lines₁ links₁ : List ℕ) (done : Done values level dx dy lines links drawing lines₁ links₁) (points directory : List ℕ) (answer : Built) (points' directory₁ : List ℕ)
+  module _ (drawing : Drawing) (lines₁ links₁ : List ℕ) (done : Done values level dx dy lines links drawing lines₁ links₁) (points directory : List ℕ) (answer : Result ℕ Refusal) (points' directory₁ : List ℕ)
       (packed : Packed drawing dx links₁ points directory answer points' directory₁)
       (words : ℕ) (words-need : words ≡ link_words drawing.segments) (filled : ℕ) (filled-need : filled ≡ point_words drawing.segments drawing.rings) where
     -- what packing leaves here
@@ -95,7 +92,7 @@ module _ (values : List Float) (level : Level) (dx dy : ℕ) (lines links : List
 
     -- the answer and the outputs, by the verdict on the outputs
     module _ (is : outputs ≡ passes) where
-      answer-is : answer ≡ built-is.Rings (ring_count A dx dy)
+      answer-is : answer ≡ Ok (ring_count A dx dy)
       unfolding built
       answer-is = bare.answers ∙ ap₂ (λ (v w : Verdict). built v w A dx dy) done.is-passes is
 
@@ -128,7 +125,7 @@ module _ (values : List Float) (level : Level) (dx dy : ℕ) (lines links : List
         counts-are = λ r h. ap (λ (l : List ℕ). get_or l (4 * r + 1) 0) directory-written ∙ bare-count 0 0 (rings_of A dx dy) (drop (length (bare_by short_of 0 0 (rings_of A dx dy))) directory) r h;
       }
 
-      ownable-here : Ownable (built-is.Rings (ring_count A dx dy)) words links₁ filled points' directory₁
+      ownable-here : Ownable (Ok (ring_count A dx dy)) words links₁ filled points' directory₁
       unfolding Ownable ring_count link_words
       ownable-here =
           let sized = done.sized in
@@ -143,7 +140,7 @@ module _ (values : List Float) (level : Level) (dx dy : ℕ) (lines links : List
             room-here,
           )
 
-      owned-here : owned_directory false (built-is.Rings (ring_count A dx dy)) front directory₁ ≡ written (contour_records (rings_of A dx dy)) directory
+      owned-here : owned_directory false (Ok (ring_count A dx dy)) front directory₁ ≡ written (contour_records (rings_of A dx dy)) directory
       unfolding owned_directory records_by contour_by contour_records ring_count
       owned-here =
           ap (λ (rings : List Line). written (contour_records rings) directory₁) (rings-are laid)
@@ -151,7 +148,7 @@ module _ (values : List Float) (level : Level) (dx dy : ℕ) (lines links : List
           ∙ written_over (contour_records (rings_of A dx dy)) (bare_by short_of 0 0 (rings_of A dx dy)) directory (omega (arith, contour-length (rings_of A dx dy), bare-length))
 
     module _ (why : Refusal) (is : outputs ≡ refused why) where
-      answer-refused : answer ≡ built-is.Refused why
+      answer-refused : answer ≡ Err why
       unfolding built
       answer-refused = bare.answers ∙ ap₂ (λ (v w : Verdict). built v w A dx dy) done.is-passes is
 
@@ -164,8 +161,8 @@ module _ (values : List Float) (level : Level) (dx dy : ℕ) (lines links : List
     ownable = by outputs refl
       where
         by : (v : Verdict) → outputs ≡ v → Ownable answer words links₁ filled points' directory₁
-        by passes e = subst (λ (a : Built). Ownable a words links₁ filled points' directory₁) (sym (answer-is e)) (ownable-here e)
-        by (refused why) e = subst (λ (a : Built). Ownable a words links₁ filled points' directory₁) (sym (answer-refused why e)) tt
+        by passes e = subst (λ (a : Result ℕ Refusal). Ownable a words links₁ filled points' directory₁) (sym (answer-is e)) (ownable-here e)
+        by (refused why) e = subst (λ (a : Result ℕ Refusal). Ownable a words links₁ filled points' directory₁) (sym (answer-refused why e)) tt
 
     directory-owned : owned_directory false answer front directory₁ ≡ output_after passes outputs (contour_records (rings_of A dx dy)) directory
     unfolding owned_directory output_after
@@ -173,10 +170,10 @@ module _ (values : List Float) (level : Level) (dx dy : ℕ) (lines links : List
       where
         by : (v : Verdict) → outputs ≡ v → owned_directory false answer front directory₁ ≡ output_after passes outputs (contour_records (rings_of A dx dy)) directory
         by passes e =
-            ap (λ (a : Built). owned_directory false a front directory₁) (answer-is e) ∙ owned-here e
+            ap (λ (a : Result ℕ Refusal). owned_directory false a front directory₁) (answer-is e) ∙ owned-here e
             ∙ sym (ap (λ (v : Verdict). output_after passes v (contour_records (rings_of A dx dy)) directory) e)
         by (refused why) e =
-            ap (λ (a : Built). owned_directory false a front directory₁) (answer-refused why e) ∙ directory-spared why e
+            ap (λ (a : Result ℕ Refusal). owned_directory false a front directory₁) (answer-refused why e) ∙ directory-spared why e
             ∙ sym (ap (λ (v : Verdict). output_after passes v (contour_records (rings_of A dx dy)) directory) e)
 
     pub contours-done : (links₂ directory' : List ℕ) → OwnersFound false answer words links₁ links₂ filled points' directory₁ directory'

@@ -44,7 +44,7 @@ fn own_either(band: bool, points: &[u16], directory: &mut [u32], n: usize, scrat
 // The records of the rings that were written, where any were. The first `words` words of the
 // link table are worked in, and the first `filled` words of the points are read.
 fn own_rings(
-    answer: Built,
+    answer: Result<u32, Refusal>,
     band: bool,
     words: usize,
     links: &mut [u32],
@@ -55,7 +55,7 @@ fn own_rings(
     requires { Ownable answer words links.old filled points.now directory.old }
     ensures { OwnersFound band answer words links.old links.new filled points.now directory.old directory.new }
 {
-    if let Built::Rings(rings) = answer {
+    if let Ok(rings) = answer {
         let drawn = &points[..filled];
         own_either(band, drawn, directory, rings as usize, &mut links[..words]);
     }
@@ -72,13 +72,13 @@ pub fn contours(
     links: &mut [u32],
     points: &mut [u16],
     directory: &mut [u32],
-) -> Built
+) -> Result<u32, Refusal>
     ensures { ContoursBuilt values.now level dx dy lines.old links.old points.old directory.old result
         lines.new links.new points.new directory.new }
 {
     match run_pass(values, level, dx, dy, lines, links) {
-        Pass::Refused(refusal) => Built::Refused(refusal),
-        Pass::Done(drawing) => {
+        Err(refusal) => Err(refusal),
+        Ok(drawing) => {
             let answer = pack(drawing, dx as u32, links, points, directory);
             let peak = drawing.peak;
             let segments = drawing.segments;
@@ -103,7 +103,7 @@ fn band_over(
     links: &mut [u32],
     points: &mut [u16],
     directory: &mut [u32],
-) -> Built
+) -> Result<u32, Refusal>
     requires { grid_fit (length values.now) dx dy ≡ GridFit.Fits }
     ensures { BuiltOver GridFit.Fits (terrain (above_at lower) values.now dx dy) (terrain (above_at upper) values.now dx dy) dx dy
         lines.old links.old points.old directory.old result
@@ -111,8 +111,8 @@ fn band_over(
 {
     let mut marks = [0u8; TILES];
     match band_pass(values, lower, upper, dx, dy, &mut marks, lines, links) {
-        BandPass::Refused(refusal) => Built::Refused(refusal),
-        BandPass::Done(drawing) => {
+        Err(refusal) => Err(refusal),
+        Ok(drawing) => {
             let answer = band_pack(
                 drawing, values, lower, dx, dy, &marks, lines, links, points, directory,
             );
@@ -141,12 +141,12 @@ pub fn isobands(
     links: &mut [u32],
     points: &mut [u16],
     directory: &mut [u32],
-) -> Built
+) -> Result<u32, Refusal>
     ensures { BandBuilt values.now thresholds.now rule k dx dy lines.old links.old points.old directory.old result
         lines.new links.new points.new directory.new }
 {
     match band_pair(values.len(), dx, dy, thresholds, rule, k) {
-        BandFit::Refused(refusal) => Built::Refused(refusal),
+        Err(refusal) => Err(refusal),
         BandFit::Fits(lower, upper) => band_over(
             values, lower, upper, dx, dy, lines, links, points, directory,
         ),

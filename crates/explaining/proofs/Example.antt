@@ -22,10 +22,9 @@ use Rattle.smoothing.specs.declared.Coordinate.TheVariants as coordinate-is
 use Rattle.deciding.specs.Decisions.{decided_by, decision_from, decision_of}
 use Rattle.deciding.specs.declared.Decision.TheVariants as decision-is
 use Rattle.explaining.specs.declared.RingFate.TheVariants as fate-is
-use Rattle.explaining.specs.declared.PolygonAnswer.TheVariants as answer-is
-use Rattle.explaining.specs.declared.VertexAnswer.TheVariants as vertex-is
 use Rattle.explaining.specs.Fates.{rings_from, rings_in, told, fate_told, fate_answer, polygon_answer}
 use Rattle.explaining.specs.Vertices.{in_grid, midway_in_row, midway_in_column, midway, vertex_of_ring, vertex_there, vertex_told, on_grid, vertex_answer}
+use Rattle.std.specs.Prelude.{Ok, Err}
 
 -- the frame's rings, ring 0 first
 pub frame_points : List ℕ
@@ -49,14 +48,14 @@ row_values = map whole (0 ∷ 4 ∷ [])
 
 -- 0.25 is 1 · 2 ^ -2
 pub the-frame-and-the-row :
-    (fate_answer frame_points frame_records 2 0 ≡ fate-is.Hole 1 (decision-is.Inside 0))
-    × (fate_answer frame_points frame_records 2 1 ≡ fate-is.Polygon)
-    × (fate_answer frame_points frame_records 2 2 ≡ fate-is.Refused NotThere)
-    × (fate_answer frame_points [] 2 2 ≡ fate-is.Refused BadRingSet)
-    × (polygon_answer frame_points frame_records 2 0 1 ≡ answer-is.Decided (decision-is.Outside 0))
-    × (polygon_answer frame_points frame_records 2 1 1 ≡ answer-is.Decided decision-is.Undecided)
+    (fate_answer frame_points frame_records 2 0 ≡ Ok (fate-is.Hole 1 (decision-is.Inside 0)))
+    × (fate_answer frame_points frame_records 2 1 ≡ (Ok fate-is.Polygon))
+    × (fate_answer frame_points frame_records 2 2 ≡ Err NotThere)
+    × (fate_answer frame_points [] 2 2 ≡ Err BadRingSet)
+    × (polygon_answer frame_points frame_records 2 0 1 ≡ Ok (decision-is.Outside 0))
+    × (polygon_answer frame_points frame_records 2 1 1 ≡ Ok decision-is.Undecided)
     × (vertex_answer row_values (whole 1) 2 1 row_points row_records 1 0 2
-    ≡ vertex-is.Moves (record { x = coordinate-is.Moved (Ieee.fin false 1 (negsuc 1)); y = coordinate-is.Stayed }))
-    × (vertex_answer row_values (whole 1) 2 2 row_points [] 1 0 2 ≡ vertex-is.Refused BadDimension)
+    ≡ Ok (record { x = coordinate-is.Moved (Ieee.fin false 1 (negsuc 1)); y = coordinate-is.Stayed }))
+    × (vertex_answer row_values (whole 1) 2 2 row_points [] 1 0 2 ≡ Err BadDimension)
 unfolding frame_points frame_records row_points row_records row_values side_limit coordinate_limit point_limit record_stride no_owner same_point points twist twists last_of area positive twos_complement low_word high_word any_above is_zero below below_fraction collinear between on_pair left_of_crossing flips signed walk point_against decide ring_against not_outside takes owner_from fates_by contour_classes contour_fates whole half real_of sample_at moves directory_words first_at count_at class_at owner_at area_low_at area_high_at words_in ring_words_at ring_at directory_short range_outside count_out coordinate_over unclosed area_off class_out is_polygon is_hole owned_by_another owned_by_none record_refused any_below ring_set_refused bad_side bad_count grid_fit fraction moved_by coordinate_moves vertex_moves decided_by decision_from decision_of rings_from rings_in told fate_told fate_answer polygon_answer in_grid midway_in_row midway_in_column midway vertex_of_ring vertex_there vertex_told on_grid vertex_answer xor Ieee.of_int Ieee.sub Ieee.add Ieee.div Ieee.is_nan
 the-frame-and-the-row = (refl, refl, refl, refl, refl, refl, refl, refl)

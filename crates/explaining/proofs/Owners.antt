@@ -22,6 +22,8 @@ use Rattle.deciding.proofs.Laws.{decision-answers}
 use Rattle.explaining.specs.declared.RingFate.{RingFate}
 use Rattle.explaining.specs.declared.RingFate.TheVariants as fate-is
 use Rattle.explaining.specs.Fates.{rings_from, rings_in, told, hole_told, fate_told, fate_answer, is_polygon_by, AllOutside, Owner, FateFound}
+use Rattle.std.specs.Prelude.{Result, Ok, Err}
+use Rattle.error.specs.declared.Refusal.{Refusal}
 
 -- ---- document 01's fates, one by one
 
@@ -32,7 +34,7 @@ fates-at classes all [] i h = absurd (not-suc-le-zero h)
 fates-at classes all (ring ∷ rings) zero h = refl
 fates-at classes all (ring ∷ rings) (suc i) h = fates-at classes all rings i (le_of_suc-le-suc h)
 
-told-by : (all : List Line) (ring : Line) (b : Bool) (fate : Fate) → told all ring (cond b polygon fate) ≡ cond b fate-is.Polygon (told all ring fate)
+told-by : (all : List Line) (ring : Line) (b : Bool) (fate : Fate) → told all ring (cond b polygon fate) ≡ cond b (Ok fate-is.Polygon) (told all ring fate)
 unfolding told
 told-by all ring true fate = refl
 told-by all ring false fate = refl
@@ -101,13 +103,13 @@ module _ (ps directory : List ℕ) where
 
       -- any other is the owner
       pub the-owner : k < rings → is_polygon_by ps directory k ≡ true → takes (ring_at ps directory k) ring ≡ true →
-          fate-is.Hole k (decision_of (ring_at ps directory k) ring) ≡ hole_told (rings_in ps directory rings) ring
+          Ok (fate-is.Hole k (decision_of (ring_at ps directory k) ring)) ≡ hole_told (rings_in ps directory rings) ring
       unfolding hole_told told rings_in
       the-owner h e f =
           let found : owner_among 0 rings ≡ hole k = sought-next h ∙ rw (e, f) refl in
-          sym (ap (told (rings_from ps directory 0 rings) ring) found ∙ ap (λ (l : Line). fate-is.Hole k (decision_of l ring)) (ring_of h))
+          sym (ap (told (rings_from ps directory 0 rings) ring) found ∙ ap (λ (l : Line). Ok (fate-is.Hole k (decision_of l ring))) (ring_of h))
 
-      pub no-owner : rings ≤ k → fate-is.Dropped ≡ hole_told (rings_in ps directory rings) ring
+      pub no-owner : rings ≤ k → (Ok fate-is.Dropped) ≡ hole_told (rings_in ps directory rings) ring
       unfolding hole_told told rings_in owner_from contour_classes rings_from
       no-owner h =
           let e : rings - k ≡ 0 = omega arith in
@@ -153,11 +155,11 @@ module _ (ps directory : List ℕ) where
 
   module _ (rings i : ℕ) where
     -- what an answer shows
-    abbrev Shows : RingFate → Type 0
-    Shows fate-is.Polygon = Unit {0}
-    Shows (fate-is.Hole k d) = Owner ps directory rings i k d
-    Shows fate-is.Dropped = AllOutside ps directory i rings
-    Shows (fate-is.Refused why) = Unit {0}
+    abbrev Shows : Result RingFate Refusal → Type 0
+    Shows (Ok fate-is.Polygon) = Unit {0}
+    Shows (Ok (fate-is.Hole k d)) = Owner ps directory rings i k d
+    Shows (Ok fate-is.Dropped) = AllOutside ps directory i rings
+    Shows (Err why) = Unit {0}
 
     told-shows : i < rings → (fate : Fate) → Shown (ring_at ps directory i) 0 rings fate → Shows (told (rings_in ps directory rings) (ring_at ps directory i) fate)
     unfolding told
@@ -173,7 +175,7 @@ module _ (ps directory : List ℕ) where
     told-shows h line s = absurd s
 
     -- the fate of a ring of the set, polygon or not
-    pub fate-of : i < rings → fate_told (rings_in ps directory rings) i ≡ cond (is_polygon_by ps directory i) fate-is.Polygon (hole_told (rings_in ps directory rings) (ring_at ps directory i))
+    pub fate-of : i < rings → fate_told (rings_in ps directory rings) i ≡ cond (is_polygon_by ps directory i) (Ok fate-is.Polygon) (hole_told (rings_in ps directory rings) (ring_at ps directory i))
     unfolding fate_told hole_told contour_fates is_polygon_by rings_in
     fate-of h =
         let fates = fates-at (contour_classes (rings_in ps directory rings)) (rings_in ps directory rings) (rings_in ps directory rings) i (rw rings-counted h) in
@@ -183,16 +185,16 @@ module _ (ps directory : List ℕ) where
     unfolding fate_answer hole_told rings_in
     shows = by (ring_set_refused ps directory rings) (ltb i rings) refl
       where
-        polygon-or-not : i < rings → (b : Bool) → Shows (cond b fate-is.Polygon (hole_told (rings_in ps directory rings) (ring_at ps directory i)))
+        polygon-or-not : i < rings → (b : Bool) → Shows (cond b (Ok fate-is.Polygon) (hole_told (rings_in ps directory rings) (ring_at ps directory i)))
         polygon-or-not h true = tt
         polygon-or-not h false = told-shows h (owner_among (ring_at ps directory i) 0 rings) (shown (ring_at ps directory i) rings 0 rings (zero-add rings))
 
-        by : (a b : Bool) → ltb i rings ≡ b → Shows (cond a (fate-is.Refused BadRingSet) (cond b (fate_told (rings_in ps directory rings) i) (fate-is.Refused NotThere)))
+        by : (a b : Bool) → ltb i rings ≡ b → Shows (cond a (Err BadRingSet) (cond b (fate_told (rings_in ps directory rings) i) (Err NotThere)))
         by true b e = tt
         by false true e = let h = ltb-true i rings e in rw (fate-of h) (polygon-or-not h (is_polygon_by ps directory i))
         by false false e = tt
 
-    pub fate-found : {answer : RingFate} → answer ≡ fate_answer ps directory rings i → FateFound ps directory rings i answer
+    pub fate-found : {answer : Result RingFate Refusal} → answer ≡ fate_answer ps directory rings i → FateFound ps directory rings i answer
     fate-found {answer} e = record {
       answers = e;
       of-hole = λ k d f. subst Shows (sym e ∙ f) shows;

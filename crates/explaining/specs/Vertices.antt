@@ -1,15 +1,13 @@
 -- What smoothing does to a vertex of a ring set, under numbers 1, 2, 9 and 15: which vertices stand midway between two neighbouring samples of which at least one
 -- is in the grid, and the answer on every input. Assumes nothing.
-use Rattle.std.specs.Prelude.{Bool, cond, ◌&&◌, ◌||◌, List, ℕ, ◌+◌, ◌/◌, ◌%◌, ltb, leb, eqb, Float, length, get_or}
+use Rattle.std.specs.Prelude.{Bool, cond, ◌&&◌, ◌||◌, List, ℕ, ◌+◌, ◌/◌, ◌%◌, ltb, leb, eqb, Float, length, get_or, Result, Ok, Err}
 use Rattle.error.specs.declared.Refusal.TheVariants.{BadRingSet, NotThere}
 use Rattle.scope.specs.Cells.{Point}
 use Rattle.scope.specs.GeoJson.{count_at, ring_at, ring_set_refused}
 use Rattle.grid.specs.Grid.{grid_fit}
-use Rattle.grid.specs.declared.GridFit.{GridFit}
-use Rattle.grid.specs.declared.GridFit.TheVariants as fit_is
 use Rattle.smoothing.specs.Coordinates.{vertex_moves}
-use Rattle.explaining.specs.declared.VertexAnswer.{VertexAnswer}
-use Rattle.explaining.specs.declared.VertexAnswer.TheVariants as answer-is
+use Rattle.error.specs.declared.Refusal.{Refusal}
+use Rattle.smoothing.specs.declared.VertexMoves.{VertexMoves}
 
 -- ---- midway between two neighbouring samples
 
@@ -41,16 +39,16 @@ unfoldable pub vertex_there : ℕ → ℕ → List ℕ → List ℕ → ℕ → 
 vertex_there dx dy ps directory rings i v = ltb i rings && ltb v (count_at directory i) && midway dx dy (vertex_of_ring ps directory i v)
 
 -- the vertex is there, or number 15
-unfoldable pub vertex_told : List Float → Float → ℕ → ℕ → List ℕ → List ℕ → ℕ → ℕ → ℕ → VertexAnswer
+unfoldable pub vertex_told : List Float → Float → ℕ → ℕ → List ℕ → List ℕ → ℕ → ℕ → ℕ → Result VertexMoves Refusal
 vertex_told values t dx dy ps directory rings i v =
-    cond (vertex_there dx dy ps directory rings i v) (answer-is.Moves (vertex_moves values t dx dy (vertex_of_ring ps directory i v))) (answer-is.Refused NotThere)
+    cond (vertex_there dx dy ps directory rings i v) (Ok (vertex_moves values t dx dy (vertex_of_ring ps directory i v))) (Err NotThere)
 
 -- numbers 1 and 2, or what follows
-unfoldable pub on_grid : GridFit → VertexAnswer → VertexAnswer
-on_grid (fit_is.Refused why) next = answer-is.Refused why
-on_grid fit_is.Fits next = next
+unfoldable pub on_grid : Result (Unit {0}) Refusal → Result VertexMoves Refusal → Result VertexMoves Refusal
+on_grid (Err why) next = Err why
+on_grid (Ok tt) next = next
 
-unfoldable pub vertex_answer : List Float → Float → ℕ → ℕ → List ℕ → List ℕ → ℕ → ℕ → ℕ → VertexAnswer
+unfoldable pub vertex_answer : List Float → Float → ℕ → ℕ → List ℕ → List ℕ → ℕ → ℕ → ℕ → Result VertexMoves Refusal
 vertex_answer values t dx dy ps directory rings i v =
     on_grid (grid_fit (length values) dx dy)
-    (cond (ring_set_refused ps directory rings) (answer-is.Refused BadRingSet) (vertex_told values t dx dy ps directory rings i v))
+    (cond (ring_set_refused ps directory rings) (Err BadRingSet) (vertex_told values t dx dy ps directory rings i v))

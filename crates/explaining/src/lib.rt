@@ -87,7 +87,7 @@ fn holds(answer: Decision) -> bool
 }
 
 // The fate of a ring of a checked set that is no polygon: the first polygon whose answer is not -1 is its owner.
-fn hole_told(points: &[u16], directory: &[u32], rings: u32, ring: u32) -> RingFate
+fn hole_told(points: &[u16], directory: &[u32], rings: u32, ring: u32) -> Result<RingFate, Refusal>
     requires { RingOf points.now directory.now rings ring }
     ensures { result ≡ hole_told (rings_in points.now directory.now rings) (ring_at points.now directory.now ring) }
 {
@@ -107,14 +107,14 @@ fn hole_told(points: &[u16], directory: &[u32], rings: u32, ring: u32) -> RingFa
 }
 
 // What becomes of a ring of a contour, by the points of the ring set and not by the words of its records: what `contours` would have written for these rings.
-pub fn ring_fate(points: &[u16], directory: &[u32], rings: u32, ring: u32) -> RingFate
+pub fn ring_fate(points: &[u16], directory: &[u32], rings: u32, ring: u32) -> Result<RingFate, Refusal>
     ensures { FateFound points.now directory.now rings ring result }
 {
     if ring_set_faulty(points, directory, rings) {
-        return RingFate::Refused(Refusal::BadRingSet);
+        return Err(Refusal::BadRingSet);
     }
     if rings <= ring {
-        return RingFate::Refused(Refusal::NotThere);
+        return Err(Refusal::NotThere);
     }
     if polygon_at(points, directory, rings, ring) {
         return RingFate::Polygon;
@@ -129,19 +129,19 @@ pub fn polygon_answer(
     rings: u32,
     polygon: u32,
     ring: u32,
-) -> PolygonAnswer
+) -> Result<Decision, Refusal>
     ensures { result ≡ polygon_answer points.now directory.now rings polygon ring }
 {
     if ring_set_faulty(points, directory, rings) {
-        return PolygonAnswer::Refused(Refusal::BadRingSet);
+        return Err(Refusal::BadRingSet);
     }
     if rings <= polygon {
-        return PolygonAnswer::Refused(Refusal::NotThere);
+        return Err(Refusal::NotThere);
     }
     if rings <= ring {
-        return PolygonAnswer::Refused(Refusal::NotThere);
+        return Err(Refusal::NotThere);
     }
-    PolygonAnswer::Decided(decision_at(points, directory, rings, polygon, ring))
+    Ok(decision_at(points, directory, rings, polygon, ring))
 }
 
 // Whether the sample in a column and a row, both counted from one outside, is in the grid.
@@ -194,22 +194,22 @@ fn vertex_told(
     rings: u32,
     ring: u32,
     vertex: u32,
-) -> VertexAnswer
+) -> Result<VertexMoves, Refusal>
     requires { ring_set_refused points.now directory.now rings ≡ false }
     ensures { result ≡ vertex_told values.now level.threshold dx dy points.now directory.now rings ring vertex }
 {
     if rings <= ring {
-        return VertexAnswer::Refused(Refusal::NotThere);
+        return Err(Refusal::NotThere);
     }
     let record = record_at(directory, ring);
     if record.count <= vertex {
-        return VertexAnswer::Refused(Refusal::NotThere);
+        return Err(Refusal::NotThere);
     }
     let point = vertex_at(points, directory, rings, ring, vertex);
     if !midway(dx, dy, point) {
-        return VertexAnswer::Refused(Refusal::NotThere);
+        return Err(Refusal::NotThere);
     }
-    VertexAnswer::Moves(vertex_moves(values, level, dx, dy, point))
+    Ok(vertex_moves(values, level, dx, dy, point))
 }
 
 // What smoothing does to a vertex of a ring of a ring set, at a level of a grid.
@@ -223,14 +223,14 @@ pub fn smoothed_vertex(
     rings: u32,
     ring: u32,
     vertex: u32,
-) -> VertexAnswer
+) -> Result<VertexMoves, Refusal>
     ensures { result ≡ vertex_answer values.now level.threshold dx dy points.now directory.now rings ring vertex }
 {
-    if let GridFit::Refused(refusal) = grid_fit(values.len(), dx, dy) {
-        return VertexAnswer::Refused(refusal);
+    if let Err(refusal) = grid_fit(values.len(), dx, dy) {
+        return Err(refusal);
     }
     if ring_set_faulty(points, directory, rings) {
-        return VertexAnswer::Refused(Refusal::BadRingSet);
+        return Err(Refusal::BadRingSet);
     }
     vertex_told(
         values, level, dx as u32, dy as u32, points, directory, rings, ring, vertex,

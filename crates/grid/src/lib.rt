@@ -7,33 +7,25 @@ ghost use Rattle.grid.specs.Grid.{grid_fit};
 use error::Refusal;
 use limits::SIDE_LIMIT;
 
-// Whether a grid can be scanned.
-#[derive(Clone, Copy)]
-pub enum GridFit {
-    // both sides are within the limit, and there is a value for each sample
-    Fits,
-    // a side is not within the limit, or else the number of values is not that of the samples
-    Refused(Refusal),
-}
-
-// Whether a grid of these sides and this many values fits, or the lowest refusal that applies. The sides are tested before they are multiplied.
-pub fn grid_fit(count: usize, dx: usize, dy: usize) -> GridFit
+// Whether a grid of these sides and this many values can be scanned: both sides are within the limit, and there is a value for each sample. Else the lowest refusal
+// that applies. The sides are tested before they are multiplied.
+pub fn grid_fit(count: usize, dx: usize, dy: usize) -> Result<(), Refusal>
     ensures { result ≡ grid_fit count dx dy }
 {
     if dx == 0 {
-        return GridFit::Refused(Refusal::BadSide);
+        return Err(Refusal::BadSide);
     }
     if SIDE_LIMIT < dx {
-        return GridFit::Refused(Refusal::BadSide);
+        return Err(Refusal::BadSide);
     }
     if dy == 0 {
-        return GridFit::Refused(Refusal::BadSide);
+        return Err(Refusal::BadSide);
     }
     if SIDE_LIMIT < dy {
-        return GridFit::Refused(Refusal::BadSide);
+        return Err(Refusal::BadSide);
     }
     if count != dx * dy {
-        return GridFit::Refused(Refusal::BadDimension);
+        return Err(Refusal::BadDimension);
     }
-    GridFit::Fits
+    Ok(())
 }

@@ -27,33 +27,27 @@ use Rattle.packing.specs.Cleared.{cleared}
 use Rattle.packing.proofs.Laws.{stores-from-the-start, cleared-is-zeroed}
 use Rattle.spreading.proofs.Laws.{bare-written}
 use Rattle.grid.specs.Grid.{grid_fit, Sized}
-use Rattle.grid.specs.declared.GridFit.{GridFit}
-use Rattle.grid.specs.declared.GridFit.TheVariants as fit_is
 use Rattle.grid.proofs.Laws.{a-grid-that-fits-is-sized}
 use Rattle.isoringbuilder.specs.Verdict.{Verdict, refused, passes, after_grid, work_verdict, room_verdict, output_verdict}
 use Rattle.isoringbuilder.specs.Answers.{work_after, output_after, reported, built, above, on_entry, on_outputs, SecondReported, RingsBuilt}
 use Rattle.isoringbuilder.specs.Pass.{stitched_tables, passed, pass_table, packed, spread_out, Passed, Packed, PackedWhole}
-use Rattle.isoringbuilder.specs.declared.Pass.{Pass}
-use Rattle.isoringbuilder.specs.declared.Pass.TheVariants as pass-is
 use Rattle.isoringbuilder.specs.declared.Drawing.{Drawing}
-use Rattle.isoringbuilder.specs.declared.SecondReport.TheVariants as report-is
-use Rattle.isoringbuilder.specs.declared.Built.{Built}
-use Rattle.isoringbuilder.specs.declared.Built.TheVariants as built-is
 use Rattle.isoringbuilder.proofs.Limits.{outside, segments-fit, points-fit, peak-fits, columns-fit, rows_fit}
 use Rattle.isoringbuilder.proofs.Packing.{PackedAs, short_records, of-packed}
+use Rattle.std.specs.Prelude.{Result, Ok, Err}
 
 -- a verdict that passes: the grid fits, and so do both tables
-record Fitting (fit : GridFit) (m need n need' : ℕ) : Type 0 where
-  grid : fit ≡ fit_is.Fits
+record Fitting (fit : Result (Unit {0}) Refusal) (m need n need' : ℕ) : Type 0 where
+  grid : fit ≡ Ok tt
   first : need ≤ m
   second : need' ≤ n
 
-fitting : (fit : GridFit) (m need n need' : ℕ) → after_grid fit (cond (ltb m need) (refused OpenShort) (cond (ltb n need') (refused LinksShort) passes)) ≡ passes → Fitting fit m need n need'
+fitting : (fit : Result (Unit {0}) Refusal) (m need n need' : ℕ) → after_grid fit (cond (ltb m need) (refused OpenShort) (cond (ltb n need') (refused LinksShort) passes)) ≡ passes → Fitting fit m need n need'
 unfolding after_grid
-fitting (fit_is.Refused why) m need n need' e = absurd (let z : ◌≡◌ {A = ℕ} 0 1 = cc in omega arith)
-fitting fit_is.Fits m need n need' e = by (ltb m need) (ltb n need') refl refl e
+fitting (Err why) m need n need' e = absurd (let z : ◌≡◌ {A = ℕ} 0 1 = cc in omega arith)
+fitting (Ok tt) m need n need' e = by (ltb m need) (ltb n need') refl refl e
   where
-    by : (a b : Bool) → ltb m need ≡ a → ltb n need' ≡ b → cond a (refused OpenShort) (cond b (refused LinksShort) passes) ≡ passes → Fitting fit_is.Fits m need n need'
+    by : (a b : Bool) → ltb m need ≡ a → ltb n need' ≡ b → cond a (refused OpenShort) (cond b (refused LinksShort) passes) ≡ passes → Fitting (Ok tt) m need n need'
     by true b ea eb k = absurd (let z : ◌≡◌ {A = ℕ} 0 1 = cc in omega arith)
     by false true ea eb k = absurd (let z : ◌≡◌ {A = ℕ} 0 1 = cc in omega arith)
     by false false ea eb k = record { grid = refl; first = ltb-false m need ea; second = ltb-false n need' eb }
@@ -83,11 +77,11 @@ module _ (values : List Float) (level : Level) (dx dy : ℕ) (lines links : List
     pub lines_fit : open_words dx (peak (terrain (above_at level) values dx dy) dx dy) ≤ length lines
     pub links-fit : link_words (segment_count (terrain (above_at level) values dx dy) dx dy) ≤ length links
 
-  pub done-facts : (answer : Pass) (drawing : Drawing) → answer ≡ pass-is.Done drawing → (lines' links' : List ℕ) → Passed values level dx dy lines links answer lines' links' → Done drawing lines' links'
+  pub done-facts : (answer : Result Drawing Refusal) (drawing : Drawing) → answer ≡ Ok drawing → (lines' links' : List ℕ) → Passed values level dx dy lines links answer lines' links' → Done drawing lines' links'
   unfolding passed pass_table
   done-facts answer drawing is lines' links' k = by verdict refl (sym is ∙ k.answers) k.lines_are k.links-are
     where
-      by : (v : Verdict) → verdict ≡ v → pass-is.Done drawing ≡ passed v A dx dy stitched → lines' ≡ pass_table v lines stitched.lines → links' ≡ pass_table v links stitched.links → Done drawing lines' links'
+      by : (v : Verdict) → verdict ≡ v → Ok drawing ≡ passed v A dx dy stitched → lines' ≡ pass_table v lines stitched.lines → links' ≡ pass_table v links stitched.links → Done drawing lines' links'
       by (refused why) e a b c = absurd (let z : ◌≡◌ {A = ℕ} 0 1 = cc in omega arith)
       by passes e a b c =
           let fits : Fitting (grid_fit (length values) dx dy) (length lines) (open_words dx (peak A dx dy)) (length links) (link_words (segment_count A dx dy)) =
@@ -103,31 +97,31 @@ module _ (values : List Float) (level : Level) (dx dy : ℕ) (lines links : List
           }
 
   -- what is known after a refused pass
-  pub refused-facts : (answer : Pass) (why : Refusal) → answer ≡ pass-is.Refused why → (lines' links' : List ℕ) → Passed values level dx dy lines links answer lines' links' → (verdict ≡ refused why) × (lines' ≡ lines) × (links' ≡ links)
+  pub refused-facts : (answer : Result Drawing Refusal) (why : Refusal) → answer ≡ Err why → (lines' links' : List ℕ) → Passed values level dx dy lines links answer lines' links' → (verdict ≡ refused why) × (lines' ≡ lines) × (links' ≡ links)
   unfolding passed pass_table
   refused-facts answer why is lines' links' k = by verdict refl (sym is ∙ k.answers) k.lines_are k.links-are
     where
-      by : (v : Verdict) → verdict ≡ v → pass-is.Refused why ≡ passed v A dx dy stitched → lines' ≡ pass_table v lines stitched.lines → links' ≡ pass_table v links stitched.links → (verdict ≡ refused why) × (lines' ≡ lines) × (links' ≡ links)
+      by : (v : Verdict) → verdict ≡ v → Err why ≡ passed v A dx dy stitched → lines' ≡ pass_table v lines stitched.lines → links' ≡ pass_table v links stitched.links → (verdict ≡ refused why) × (lines' ≡ lines) × (links' ≡ links)
       by (refused other) e a b c = (e ∙ ap refused (same a), b, c)
         where
-          same : pass-is.Refused why ≡ pass-is.Refused other → other ≡ why
+          same : ◌≡◌ {A = Result Drawing Refusal} (Err why) (Err other) → other ≡ why
           same q = cc
       by passes e a b c = absurd (let z : ◌≡◌ {A = ℕ} 0 1 = cc in omega arith)
 
   -- what a build answers and leaves, where these are the words of its points and of its records
-  pub record BuiltAs {Word : Type 0} (words : List Word) (records : List ℕ) (points : List Word) (directory : List ℕ) (answer : Built) (lines' links' : List ℕ) (points' : List Word) (directory' : List ℕ) : Type 0 where
+  pub record BuiltAs {Word : Type 0} (words : List Word) (records : List ℕ) (points : List Word) (directory : List ℕ) (answer : Result ℕ Refusal) (lines' links' : List ℕ) (points' : List Word) (directory' : List ℕ) : Type 0 where
     pub answers : answer ≡ built (on_entry values level dx dy lines links) (on_outputs values level dx dy points directory) (above values level dx dy) dx dy
     pub lines_are : lines' ≡ work_after (on_entry values level dx dy lines links) (open_words dx (peak (above values level dx dy) dx dy)) lines
     pub links-are : links' ≡ work_after (on_entry values level dx dy lines links) (link_words (segment_count (above values level dx dy) dx dy)) links
     pub points-are : points' ≡ output_after (on_entry values level dx dy lines links) (on_outputs values level dx dy points directory) words points
     pub directory-is : directory' ≡ output_after (on_entry values level dx dy lines links) (on_outputs values level dx dy points directory) records directory
 
-  rings-built : {points directory : List ℕ} {answer : Built} {lines' links' points' directory' : List ℕ} → BuiltAs (packed_points (rings_of A dx dy)) (bare_records 0 0 (rings_of A dx dy)) points directory answer lines' links' points' directory'
+  rings-built : {points directory : List ℕ} {answer : Result ℕ Refusal} {lines' links' points' directory' : List ℕ} → BuiltAs (packed_points (rings_of A dx dy)) (bare_records 0 0 (rings_of A dx dy)) points directory answer lines' links' points' directory'
       → RingsBuilt values level dx dy lines links points directory answer lines' links' points' directory'
   rings-built b = record { answers = b.answers; lines_are = b.lines_are; links-are = b.links-are; points-are = b.points-are; directory-is = b.directory-is }
 
-  pub build-refused : (answer : Pass) (why : Refusal) → answer ≡ pass-is.Refused why → (lines' links' : List ℕ) → Passed values level dx dy lines links answer lines' links' → {Word : Type 0} (words : List Word) (records : List ℕ) (points : List Word) (directory : List ℕ)
-      → BuiltAs words records points directory (built-is.Refused why) lines' links' points directory
+  pub build-refused : (answer : Result Drawing Refusal) (why : Refusal) → answer ≡ Err why → (lines' links' : List ℕ) → Passed values level dx dy lines links answer lines' links' → {Word : Type 0} (words : List Word) (records : List ℕ) (points : List Word) (directory : List ℕ)
+      → BuiltAs words records points directory (Err why) lines' links' points directory
   unfolding built work_after output_after
   build-refused answer why is lines' links' k words records points directory =
       let facts = refused-facts answer why is lines' links' k in
@@ -139,11 +133,11 @@ module _ (values : List Float) (level : Level) (dx dy : ℕ) (lines links : List
         directory-is = ap (λ (v : Verdict). output_after v (output_verdict A dx dy (length points) (length directory)) records directory) (sym facts.0);
       }
 
-  pub rings-refused : (answer : Pass) (why : Refusal) → answer ≡ pass-is.Refused why → (lines' links' : List ℕ) → Passed values level dx dy lines links answer lines' links' → (points directory : List ℕ)
-      → RingsBuilt values level dx dy lines links points directory (built-is.Refused why) lines' links' points directory
+  pub rings-refused : (answer : Result Drawing Refusal) (why : Refusal) → answer ≡ Err why → (lines' links' : List ℕ) → Passed values level dx dy lines links answer lines' links' → (points directory : List ℕ)
+      → RingsBuilt values level dx dy lines links points directory (Err why) lines' links' points directory
   rings-refused answer why is lines' links' k points directory = rings-built (build-refused answer why is lines' links' k (packed_points (rings_of A dx dy)) (bare_records 0 0 (rings_of A dx dy)) points directory)
 
-  pub report-refused : (answer : Pass) (why : Refusal) → answer ≡ pass-is.Refused why → (lines' links' : List ℕ) → Passed values level dx dy lines links answer lines' links' → SecondReported values level dx dy lines links (report-is.Refused why) lines' links'
+  pub report-refused : (answer : Result Drawing Refusal) (why : Refusal) → answer ≡ Err why → (lines' links' : List ℕ) → Passed values level dx dy lines links answer lines' links' → SecondReported values level dx dy lines links (Err why) lines' links'
   unfolding reported work_after
   report-refused answer why is lines' links' k =
       let facts = refused-facts answer why is lines' links' k in
@@ -170,12 +164,12 @@ module _ (values : List Float) (level : Level) (dx dy : ℕ) (lines links : List
         ∙ unfold stitched_tables in cleared-is-zeroed (link_words (segment_count A dx dy)) links stitched.links kept.0 kept.1
 
     pub reported-done : SecondReported values level dx dy lines links
-        (report-is.Room drawing.segments drawing.rings drawing.peak (drawing.segments + drawing.rings))
+        (Ok (record { segments = drawing.segments; rings = drawing.rings; peak = drawing.peak; points = drawing.segments + drawing.rings }))
         (cleared lines' (open_words dx drawing.peak)) (cleared links' (link_words drawing.segments))
     unfolding reported work_after point_count
     reported-done = record {
       answers =
-          ap (λ (d : Drawing). report-is.Room d.segments d.rings d.peak (d.segments + d.rings)) done.is-drawing
+          ap (λ (d : Drawing). Ok (record { segments = d.segments; rings = d.rings; peak = d.peak; points = d.segments + d.rings })) done.is-drawing
           ∙ ap (λ (v : Verdict). reported v A dx dy) (sym done.is-passes);
       lines_are =
           ap (λ (d : Drawing). cleared lines' (open_words dx d.peak)) done.is-drawing ∙ lines-zeroed
@@ -203,7 +197,7 @@ module _ (values : List Float) (level : Level) (dx dy : ℕ) (lines links : List
     short-room = omega (arith, short-records-length A out-there)
 
     -- records that were written without areas, spread out
-    spread-after : (v : Verdict) (answer : Built) (points directory points' short : List ℕ) → answer ≡ built passes v A dx dy → points' ≡ output_after passes v (packed_points (rings_of A dx dy)) points
+    spread-after : (v : Verdict) (answer : Result ℕ Refusal) (points directory points' short : List ℕ) → answer ≡ built passes v A dx dy → points' ≡ output_after passes v (packed_points (rings_of A dx dy)) points
         → short ≡ output_after passes v (bare_by short_of 0 0 (rings_of A dx dy)) directory → spread_out answer points' short ≡ output_after passes v (bare_records 0 0 (rings_of A dx dy)) directory
     unfolding spread_out built output_after ring_count
     spread-after (refused why) answer points directory points' short is points-are short-is = rw is short-is
@@ -225,7 +219,7 @@ module _ (values : List Float) (level : Level) (dx dy : ℕ) (lines links : List
         (of-rings : List ℕ → Drawing → List ℕ) (records : List ℕ) (recorded : of-rings stitched.links drawn ≡ records) (room : length records ≤ directory_words (ring_count A dx dy))
         (points : List Word) (directory : List ℕ) where
       -- what packing answers and leaves, with the pass's numbers in place of the drawing's
-      with-numbers : (answer : Built) (points' : List Word) (directory' : List ℕ) → PackedAs of-link of-rings drawing links' points directory answer points' directory'
+      with-numbers : (answer : Result ℕ Refusal) (points' : List Word) (directory' : List ℕ) → PackedAs of-link of-rings drawing links' points directory answer points' directory'
           → PackedAs of-link of-rings drawn stitched.links points directory answer points' directory'
       with-numbers answer points' directory' k =
           subst (λ (d : Drawing). PackedAs of-link of-rings d stitched.links points directory answer points' directory') done.is-drawing
@@ -256,7 +250,7 @@ module _ (values : List Float) (level : Level) (dx dy : ℕ) (lines links : List
           rw (ea, eb, recorded)
           (stores-from-the-start directory records (omega (arith, room, ltb-false (length directory) (directory_words (ring_count A dx dy)) eb)))
 
-      pub build-done : (answer : Built) (points' : List Word) (directory' : List ℕ) → PackedAs of-link of-rings drawing links' points directory answer points' directory'
+      pub build-done : (answer : Result ℕ Refusal) (points' : List Word) (directory' : List ℕ) → PackedAs of-link of-rings drawing links' points directory answer points' directory'
           → BuiltAs words records points directory answer (cleared lines' (open_words dx drawing.peak)) (cleared links' (link_words drawing.segments)) points' directory'
       unfolding work_after output_verdict
       build-done answer points' directory' k =
@@ -278,7 +272,7 @@ module _ (values : List Float) (level : Level) (dx dy : ℕ) (lines links : List
           }
 
     -- what packing leaves, whose records have no areas
-    pub short-done : (points directory : List ℕ) (answer : Built) (points' directory' : List ℕ) → Packed drawing dx links' points directory answer points' directory'
+    pub short-done : (points directory : List ℕ) (answer : Result ℕ Refusal) (points' directory' : List ℕ) → Packed drawing dx links' points directory answer points' directory'
         → BuiltAs (packed_points (rings_of A dx dy)) (bare_by short_of 0 0 (rings_of A dx dy)) points directory answer
         (cleared lines' (open_words dx drawing.peak)) (cleared links' (link_words drawing.segments)) points' directory'
     short-done points directory answer points' directory' k =
@@ -286,7 +280,7 @@ module _ (values : List Float) (level : Level) (dx dy : ℕ) (lines links : List
         short_records (bare_by short_of 0 0 (rings_of A dx dy)) records-walked short-room points directory answer points' directory' (of-packed k)
 
     -- and once they are spread out
-    pub built-done : (points directory : List ℕ) (answer : Built) (points' directory' : List ℕ) → PackedWhole drawing dx links' points directory answer points' directory'
+    pub built-done : (points directory : List ℕ) (answer : Result ℕ Refusal) (points' directory' : List ℕ) → PackedWhole drawing dx links' points directory answer points' directory'
         → RingsBuilt values level dx dy lines links points directory answer
         (cleared lines' (open_words dx drawing.peak)) (cleared links' (link_words drawing.segments)) points' directory'
     built-done points directory answer points' directory' k =

@@ -17,12 +17,11 @@ use Rattle.machine.proofs.Built.{rings-found}
 use Rattle.lines.specs.Values.{tables_of}
 use Rattle.lines.specs.declared.Progress.{Progress}
 use Rattle.grid.specs.Grid.{grid_fit, Sized}
-use Rattle.grid.specs.declared.GridFit.TheVariants as fit_is
 use Rattle.grid.proofs.Laws.{a-grid-that-fits-is-sized}
 use Rattle.isoringbuilder.specs.Verdict.{Verdict, refused, passes, after_grid, work_verdict}
 use Rattle.isoringbuilder.specs.Pass.{stitched_tables, passed, pass_table, Passed}
-use Rattle.isoringbuilder.specs.declared.Pass.TheVariants as pass-is
 use Rattle.isoringbuilder.proofs.Limits.{outside, segments-fit, peak-fits}
+use Rattle.std.specs.Prelude.{Ok, Err}
 
 module _ (values : List Float) (level : Level) (dx dy : ℕ) (lines links : List ℕ) where
   abbrev A : Sheet
@@ -35,7 +34,7 @@ module _ (values : List Float) (level : Level) (dx dy : ℕ) (lines links : List
   stitched = stitched_tables (terrain (above_at level) values dx dy) dx dy lines links
 
   -- a verdict that is known gives the contract
-  by-refusal : (why : Refusal) → verdict ≡ refused why → Passed values level dx dy lines links (pass-is.Refused why) lines links
+  by-refusal : (why : Refusal) → verdict ≡ refused why → Passed values level dx dy lines links (Err why) lines links
   unfolding passed pass_table
   by-refusal why e = record {
     answers = ap (λ (v : Verdict). passed v A dx dy stitched) (sym e);
@@ -43,28 +42,28 @@ module _ (values : List Float) (level : Level) (dx dy : ℕ) (lines links : List
     links-are = ap (λ (v : Verdict). pass_table v links stitched.links) (sym e);
   }
 
-  pub grid-refused : (why : Refusal) → grid_fit (length values) dx dy ≡ fit_is.Refused why → Passed values level dx dy lines links (pass-is.Refused why) lines links
+  pub grid-refused : (why : Refusal) → grid_fit (length values) dx dy ≡ Err why → Passed values level dx dy lines links (Err why) lines links
   grid-refused why e = by-refusal why (unfold work_verdict after_grid in rw e)
 
-  module _ (fits : grid_fit (length values) dx dy ≡ fit_is.Fits) where
+  module _ (fits : grid_fit (length values) dx dy ≡ Ok tt) where
     sized : Sized (length values) dx dy
     sized = a-grid-that-fits-is-sized (length values) dx dy fits
 
-    pub lines-short : length lines < open_words dx (peak A dx dy) → Passed values level dx dy lines links (pass-is.Refused OpenShort) lines links
+    pub lines-short : length lines < open_words dx (peak A dx dy) → Passed values level dx dy lines links (Err OpenShort) lines links
     lines-short h = by-refusal OpenShort (unfold work_verdict after_grid in rw (fits, lt-ltb (length lines) (open_words dx (peak A dx dy)) h))
 
-    pub links-short : open_words dx (peak A dx dy) ≤ length lines → length links < link_words (segment_count A dx dy) → Passed values level dx dy lines links (pass-is.Refused LinksShort) lines links
+    pub links-short : open_words dx (peak A dx dy) ≤ length lines → length links < link_words (segment_count A dx dy) → Passed values level dx dy lines links (Err LinksShort) lines links
     links-short h k =
         by-refusal LinksShort
         (unfold work_verdict after_grid in rw (fits, le-ltb (length lines) (open_words dx (peak A dx dy)) h, lt-ltb (length links) (link_words (segment_count A dx dy)) k))
 
     pub done : open_words dx (peak A dx dy) ≤ length lines → link_words (segment_count A dx dy) ≤ length links → (p : Progress) (lines' links' : List ℕ)
         → tables_of lines' links' p ≡ (run_after A dx (run_over lines links) dy (suc dx)).tables
-        → Passed values level dx dy lines links (pass-is.Done (record { segments = segment_count A dx dy; peak = peak A dx dy; rings = p.rings; head = p.head })) lines' links'
+        → Passed values level dx dy lines links (Ok (record { segments = segment_count A dx dy; peak = peak A dx dy; rings = p.rings; head = p.head })) lines' links'
     unfolding passed pass_table stitched_tables
     done h k p lines' links' e = record {
       answers =
-          ap₂ (λ (r s : ℕ). pass-is.Done (record { segments = segment_count A dx dy; peak = peak A dx dy; rings = r; head = s }))
+          ap₂ (λ (r s : ℕ). Ok (record { segments = segment_count A dx dy; peak = peak A dx dy; rings = r; head = s }))
           (ap (λ (t : Tables). t.progress.rings) e ∙ rings-found A (outside values level dx dy sized) lines links h k (segments-fit values level dx dy sized) (peak-fits values level dx dy sized))
           (ap (λ (t : Tables). t.progress.head) e)
           ∙ ap (λ (v : Verdict). passed v A dx dy stitched) (sym is-passes);

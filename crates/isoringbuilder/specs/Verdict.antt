@@ -1,22 +1,20 @@
 -- The lowest refusal that applies to a build, alone, in the order of document 01's numbers. Assumes nothing.
-use Rattle.std.specs.Prelude.{cond, ℕ, ltb}
+use Rattle.std.specs.Prelude.{cond, ℕ, ltb, Result, Ok, Err}
 use Rattle.error.specs.declared.Refusal.{Refusal}
 use Rattle.error.specs.declared.Refusal.TheVariants.{OpenShort, LinksShort, PointsShort, DirectoryShort}
 use Rattle.scope.specs.Terrain.{Sheet}
 use Rattle.scope.specs.Drawing.{segment_count, ring_count, peak}
 use Rattle.scope.specs.Room.{open_words, link_words, point_words, directory_words}
 use Rattle.grid.specs.Grid.{grid_fit}
-use Rattle.grid.specs.declared.GridFit.{GridFit}
-use Rattle.grid.specs.declared.GridFit.TheVariants as fit_is
 
 pub data Verdict : Type 0 where
   refused : Refusal → Verdict
   passes : Verdict
 
 -- numbers 1 and 2, and where the grid fits what comes after them
-unfoldable pub after_grid : GridFit → Verdict → Verdict
-after_grid (fit_is.Refused why) later = refused why
-after_grid fit_is.Fits later = later
+unfoldable pub after_grid : Result (Unit {0}) Refusal → Verdict → Verdict
+after_grid (Err why) later = refused why
+after_grid (Ok tt) later = later
 
 -- numbers 1, 2, 5 and 6: the grid, and the lengths of the two work tables
 unfoldable pub work_verdict : Sheet → ℕ → ℕ → ℕ → ℕ → ℕ → Verdict

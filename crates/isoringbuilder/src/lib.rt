@@ -11,7 +11,7 @@ ghost use Rattle.isoringbuilder.specs.Verdict.{room_verdict};
 ghost use Rattle.isoringbuilder.specs.Pass.{packed, Passed, Packed, PackedWhole};
 
 use error::Refusal;
-use grid::{GridFit, grid_fit};
+use grid::grid_fit;
 use limits::RECORD_STRIDE;
 use packing::{clear, write_rings};
 use scan::{TILES, scan};
@@ -19,27 +19,13 @@ use scope::Level;
 use spreading::spread;
 use stitching::stitch;
 
-// What the second report answers.
+// What the second report says of a grid: segments S, rings R, the peak of open lines H, and points S + R.
 #[derive(Clone, Copy)]
-pub enum SecondReport {
-    // segments S, rings R, the peak of open lines H, and points S + R
-    Room {
-        segments: u32,
-        rings: u32,
-        peak: u32,
-        points: u32,
-    },
-    // why there is no report
-    Refused(Refusal),
-}
-
-// What `contour_rings` answers.
-#[derive(Clone, Copy)]
-pub enum Built {
-    // how many rings now stand in points and directory
-    Rings(u32),
-    // why there are none
-    Refused(Refusal),
+pub struct SecondReport {
+    pub segments: u32,
+    pub rings: u32,
+    pub peak: u32,
+    pub points: u32,
 }
 
 // What a stitching pass leaves to be written: its counts, and the first ring's first link.
@@ -49,13 +35,6 @@ pub struct Drawing {
     pub peak: u32,
     pub rings: u32,
     pub head: u32,
-}
-
-// A stitching pass that was done, or the refusal before it.
-#[derive(Clone, Copy)]
-pub enum Pass {
-    Done(Drawing),
-    Refused(Refusal),
 }
 
 // The words that the open table needs for this peak: 4H + dx + 2.
@@ -88,8 +67,8 @@ fn pass_over(
     dy: usize,
     lines: &mut [u32],
     links: &mut [u32],
-) -> Pass
-    requires { grid_fit (length values.now) dx dy ≡ GridFit.Fits }
+) -> Result<Drawing, Refusal>
+    requires { grid_fit (length values.now) dx dy ≡ Ok tt }
     ensures { Passed values.now level dx dy lines.old links.old result lines.new links.new }
 {
     let mut marks = [0u8; TILES];
@@ -97,19 +76,17 @@ fn pass_over(
     let segments = counts.segments;
     let peak = counts.peak;
     if lines.len() < open_words(dx, peak) {
-        return Pass::Refused(Refusal::OpenShort);
+        return Err(Refusal::OpenShort);
     }
     if links.len() < link_words(segments) {
-        return Pass::Refused(Refusal::LinksShort);
+        return Err(Refusal::LinksShort);
     }
     let progress = stitch(values, level, dx, dy, &marks, lines, links);
-    let rings = progress.rings;
-    let head = progress.head;
-    Pass::Done(Drawing {
+    Ok(Drawing {
         segments,
         peak,
-        rings,
-        head,
+        rings: progress.rings,
+        head: progress.head,
     })
 }
 
@@ -121,13 +98,11 @@ pub fn run_pass(
     dy: usize,
     lines: &mut [u32],
     links: &mut [u32],
-) -> Pass
+) -> Result<Drawing, Refusal>
     ensures { Passed values.now level dx dy lines.old links.old result lines.new links.new }
 {
-    match grid_fit(values.len(), dx, dy) {
-        GridFit::Refused(refusal) => Pass::Refused(refusal),
-        GridFit::Fits => pass_over(values, level, dx, dy, lines, links),
-    }
+    grid_fit(values.len(), dx, dy)?;
+    pass_over(values, level, dx, dy, lines, links)
 }
 
 // All room for the rings of a grid at one level. On success the needed words of both work tables are zero; a refusal changes nothing.
@@ -138,39 +113,32 @@ pub fn second_report(
     dy: usize,
     lines: &mut [u32],
     links: &mut [u32],
-) -> SecondReport
+) -> Result<SecondReport, Refusal>
     ensures { SecondReported values.now level dx dy lines.old links.old result lines.new links.new }
 {
-    match run_pass(values, level, dx, dy, lines, links) {
-        Pass::Refused(refusal) => SecondReport::Refused(refusal),
-        Pass::Done(drawing) => {
-            let segments = drawing.segments;
-            let rings = drawing.rings;
-            let peak = drawing.peak;
-            let points = segments + rings;
-            clear(lines, open_words(dx, peak));
-            clear(links, link_words(segments));
-            SecondReport::Room {
-                segments,
-                rings,
-                peak,
-                points,
-            }
-        }
-    }
+    let drawing = run_pass(values, level, dx, dy, lines, links)?;
+    let points = drawing.segments + drawing.rings;
+    clear(lines, open_words(dx, drawing.peak));
+    clear(links, link_words(drawing.segments));
+    Ok(SecondReport {
+        segments: drawing.segments,
+        rings: drawing.rings,
+        peak: drawing.peak,
+        points,
+    })
 }
 
 // How many rings are built, or why none is: the points have so many words, and there is room for so many records.
-pub fn answer_for(segments: u32, rings: u32, points: usize, room: usize) -> Built
+pub fn answer_for(segments: u32, rings: u32, points: usize, room: usize) -> Result<u32, Refusal>
     ensures { result ≡ packed (room_verdict segments rings points (directory_words room)) rings }
 {
     if points < point_words(segments, rings) {
-        return Built::Refused(Refusal::PointsShort);
+        return Err(Refusal::PointsShort);
     }
     if room < rings as usize {
-        return Built::Refused(Refusal::DirectoryShort);
+        return Err(Refusal::DirectoryShort);
     }
-    Built::Rings(rings)
+    Ok(rings)
 }
 
 // The points of the rings that a pass has drawn, and their records without areas, where points and whole records fit; both are spared where one does not.
@@ -180,19 +148,14 @@ pub fn pack(
     links: &[u32],
     points: &mut [u16],
     directory: &mut [u32],
-) -> Built
+) -> Result<u32, Refusal>
     ensures { Packed drawing dx links.now points.old directory.old result points.new directory.new }
 {
     let segments = drawing.segments;
-    let rings = drawing.rings;
-    let head = drawing.head;
     let room = directory.len() / RECORD_STRIDE;
-    let answer = answer_for(segments, rings, points.len(), room);
-    let Built::Rings(_) = answer else {
-        return answer;
-    };
-    write_rings(links, dx, head, segments, points, directory);
-    answer
+    let count = answer_for(segments, drawing.rings, points.len(), room)?;
+    write_rings(links, dx, drawing.head, segments, points, directory);
+    Ok(count)
 }
 
 // The points and the directory of the rings that a pass has drawn, where both fit; both are spared where one does not.
@@ -202,15 +165,12 @@ fn pack_whole(
     links: &[u32],
     points: &mut [u16],
     directory: &mut [u32],
-) -> Built
+) -> Result<u32, Refusal>
     ensures { PackedWhole drawing dx links.now points.old directory.old result points.new directory.new }
 {
-    let answer = pack(drawing, dx, links, points, directory);
-    let Built::Rings(drawn) = answer else {
-        return answer;
-    };
-    spread(points, directory, drawn as usize);
-    answer
+    let count = pack(drawing, dx, links, points, directory)?;
+    spread(points, directory, count as usize);
+    Ok(count)
 }
 
 // Every ring of a grid at one level, in the crate's order, vertex order and first vertex, as bare rings: points packed by ring number, and a directory
@@ -224,19 +184,13 @@ pub fn contour_rings(
     links: &mut [u32],
     points: &mut [u16],
     directory: &mut [u32],
-) -> Built
+) -> Result<u32, Refusal>
     ensures { RingsBuilt values.now level dx dy lines.old links.old points.old directory.old result
         lines.new links.new points.new directory.new }
 {
-    match run_pass(values, level, dx, dy, lines, links) {
-        Pass::Refused(refusal) => Built::Refused(refusal),
-        Pass::Done(drawing) => {
-            let answer = pack_whole(drawing, dx as u32, links, points, directory);
-            let peak = drawing.peak;
-            let segments = drawing.segments;
-            clear(lines, open_words(dx, peak));
-            clear(links, link_words(segments));
-            answer
-        }
-    }
+    let drawing = run_pass(values, level, dx, dy, lines, links)?;
+    let answer = pack_whole(drawing, dx as u32, links, points, directory);
+    clear(lines, open_words(dx, drawing.peak));
+    clear(links, link_words(drawing.segments));
+    answer
 }

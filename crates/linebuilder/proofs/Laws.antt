@@ -21,22 +21,19 @@ use Rattle.packing.specs.Cleared.{cleared}
 use Rattle.plotting.specs.Plot.{vertex_at}
 use Rattle.plotting.proofs.Laws.{line-points-found, line-points-fill-their-room}
 use Rattle.isoringbuilder.specs.Pass.{stitched_tables, Passed}
-use Rattle.isoringbuilder.specs.declared.Pass.{Pass}
-use Rattle.isoringbuilder.specs.declared.Pass.TheVariants as pass-is
 use Rattle.isoringbuilder.specs.declared.Drawing.{Drawing}
-use Rattle.isoringbuilder.specs.declared.Built.{Built}
-use Rattle.isoringbuilder.specs.declared.Built.TheVariants as built-is
 use Rattle.isoringbuilder.proofs.Limits.{outside, segments-fit, peak-fits, points-fit}
 use Rattle.isoringbuilder.proofs.Packing.{PackedAs}
 use Rattle.isoringbuilder.proofs.Laws.{Done, BuiltAs, build-refused, build-done}
 use Rattle.linebuilder.specs.Lines.{Plotted, LinesBuilt}
+use Rattle.std.specs.Prelude.{Result, Err}
 
 -- the records with areas
 abbrev pub line_records : ℕ → List ℕ → Drawing → List ℕ
 line_records dx links d = walk_measured dx links d.head 0 0 (pos 0) d.head d.segments
 
 -- plotting is packing by the lines' vertices
-module _ {d : Drawing} {values : List Float} {threshold : Float} {dx dy : ℕ} {smooth : Bool} {q : Placing} {links : List ℕ} {points : List Float} {directory : List ℕ} {answer : Built} {points' : List Float} {directory' : List ℕ} where
+module _ {d : Drawing} {values : List Float} {threshold : Float} {dx dy : ℕ} {smooth : Bool} {q : Placing} {links : List ℕ} {points : List Float} {directory : List ℕ} {answer : Result ℕ Refusal} {points' : List Float} {directory' : List ℕ} where
   pub as-plotted : PackedAs (vertex_at smooth values threshold dx dy q) (line_records dx) d links points directory answer points' directory' → Plotted d values threshold dx dy smooth q links points directory answer points' directory'
   as-plotted k = record { answers = k.answers; points-are = k.points-are; directory-is = k.directory-is }
 
@@ -50,14 +47,14 @@ module _ (values : List Float) (level : Level) (dx dy : ℕ) (lines links : List
   abbrev stitched : Tables
   stitched = stitched_tables (terrain (above_at level) values dx dy) dx dy lines links
 
-  lines-built : {points : List Float} {directory : List ℕ} {answer : Built} {lines' links' : List ℕ} {points' : List Float} {directory' : List ℕ}
+  lines-built : {points : List Float} {directory : List ℕ} {answer : Result ℕ Refusal} {lines' links' : List ℕ} {points' : List Float} {directory' : List ℕ}
       → BuiltAs values level dx dy lines links (line_points smooth values level.threshold dx dy q (rings_of A dx dy)) (bare_records 0 0 (rings_of A dx dy)) points directory answer lines' links' points' directory'
       → LinesBuilt values level dx dy smooth q lines links points directory answer lines' links' points' directory'
   lines-built b = record { answers = b.answers; lines_are = b.lines_are; links-are = b.links-are; points-are = b.points-are; directory-is = b.directory-is }
 
   -- a refused pass
-  pub lines-refused : (answer : Pass) (why : Refusal) → answer ≡ pass-is.Refused why → (lines' links' : List ℕ) → Passed values level dx dy lines links answer lines' links' → (points : List Float) (directory : List ℕ)
-      → LinesBuilt values level dx dy smooth q lines links points directory (built-is.Refused why) lines' links' points directory
+  pub lines-refused : (answer : Result Drawing Refusal) (why : Refusal) → answer ≡ Err why → (lines' links' : List ℕ) → Passed values level dx dy lines links answer lines' links' → (points : List Float) (directory : List ℕ)
+      → LinesBuilt values level dx dy smooth q lines links points directory (Err why) lines' links' points directory
   lines-refused answer why is lines' links' k points directory =
       lines-built (build-refused values level dx dy lines links answer why is lines' links' k (line_points smooth values level.threshold dx dy q (rings_of A dx dy)) (bare_records 0 0 (rings_of A dx dy)) points directory)
 
@@ -75,7 +72,7 @@ module _ (values : List Float) (level : Level) (dx dy : ℕ) (lines links : List
         let sized = done.sized in
         measured-found A (outside values level dx dy sized) lines links done.lines_fit done.links-fit (segments-fit values level dx dy sized) (peak-fits values level dx dy sized) (points-fit values level dx dy sized)
 
-    pub lines-done : (points : List Float) (directory : List ℕ) (answer : Built) (points' : List Float) (directory' : List ℕ) → Plotted drawing values level.threshold dx dy smooth q links' points directory answer points' directory'
+    pub lines-done : (points : List Float) (directory : List ℕ) (answer : Result ℕ Refusal) (points' : List Float) (directory' : List ℕ) → Plotted drawing values level.threshold dx dy smooth q links' points directory answer points' directory'
         → LinesBuilt values level dx dy smooth q lines links points directory answer
         (cleared lines' (open_words dx drawing.peak)) (cleared links' (link_words drawing.segments)) points' directory'
     lines-done points directory answer points' directory' k =

@@ -24,7 +24,7 @@ fn plot(
     links: &[u32],
     points: &mut [f64],
     directory: &mut [u32],
-) -> Built
+) -> Result<u32, Refusal>
     requires { 2 * (dx + 1) < 2 ^ 32 }
     ensures { Plotted drawing values.now level.threshold dx dy smooth (placing_of placement) links.now points.old directory.old result
         points.new directory.new }
@@ -34,7 +34,7 @@ fn plot(
     let head = drawing.head;
     let room = directory.len() / RECORD_STRIDE;
     let answer = answer_for(segments, rings, points.len(), room);
-    let Built::Rings(_) = answer else {
+    let Ok(_) = answer else {
         return answer;
     };
     write_lines(
@@ -57,13 +57,13 @@ pub fn contour_lines(
     links: &mut [u32],
     points: &mut [f64],
     directory: &mut [u32],
-) -> Built
+) -> Result<u32, Refusal>
     ensures { LinesBuilt values.now level dx dy smooth (placing_of placement) lines.old links.old points.old directory.old result
         lines.new links.new points.new directory.new }
 {
     match run_pass(values, level, dx, dy, lines, links) {
-        Pass::Refused(refusal) => Built::Refused(refusal),
-        Pass::Done(drawing) => {
+        Err(refusal) => Err(refusal),
+        Ok(drawing) => {
             let answer = plot(
                 drawing, values, level, dx as u32, dy as u32, smooth, placement, links, points,
                 directory,

@@ -8,7 +8,6 @@ ghost use Rattle.extents.specs.Points.{ring_in};
 ghost use Rattle.noting.specs.Noted.{Countable, Noted, Measurable, HighNoted, note_of};
 ghost use Rattle.noting.specs.Step.{RingWithin, RecordNotable, NotedOne, RecordMeasurable, high_put};
 
-use area::AreaAnswer;
 use limits::{HOLE, POLYGON, SHORT_STRIDE};
 
 // Whether a ring of this area is a polygon.
@@ -36,7 +35,7 @@ pub fn area_at(points: &[u16], first: usize, count: usize) -> i64
 {
     let start = 2 * first;
     let end = 2 * (first + count);
-    let AreaAnswer::Area(area) = area::area(&points[start..end]) else {
+    let Ok(area) = area::area(&points[start..end]) else {
         return 0;
     };
     area

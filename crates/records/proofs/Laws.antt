@@ -22,15 +22,11 @@ use Rattle.scope.specs.Room.{directory_words, band_directory_words}
 use Rattle.scope.specs.Smoothing.{Placing}
 use Rattle.scope.specs.Tables.{written}
 use Rattle.scope.specs.GeoJson.{directory_short, ring_set_refused}
-use Rattle.grid.specs.declared.GridFit.TheVariants as fit_is
-use Rattle.isoringbuilder.specs.declared.Built.{Built}
-use Rattle.isoringbuilder.specs.declared.Built.TheVariants as built-is
 use Rattle.isoringbuilder.specs.Answers.{RingsBuilt}
 use Rattle.contourbuilder.specs.Contours.{ContoursBuilt}
 use Rattle.linebuilder.specs.Lines.{LinesBuilt}
 use Rattle.bands.specs.Bands.{BandBuilt}
 use Rattle.geojson.specs.Written.{length_answer, written_answer, text_after}
-use Rattle.geojson.specs.declared.TextAnswer.TheVariants as text-is
 use Rattle.contour.proofs.Lowest.{WorkRoom, WorkExact}
 use Rattle.contour.proofs.Results.{Plan, Exact, JustRoom, Filled, nothing-past}
 use Rattle.contour.proofs.Theorems.{rings_plan, contours_plan, lines_plan, one-build, one-contours, one-lines, rings-exactly, contours-exactly, lines-exactly, exact-room, contours-exact-room, lines-exact-room}
@@ -42,6 +38,7 @@ use Rattle.ringrecord.proofs.Laws.{as-many-records}
 use Rattle.ringrecord.proofs.Copied.{all-rings}
 use Rattle.records.specs.Over.{rings_in, lent_words, OverRecords}
 use Rattle.records.proofs.Lending.{lent_below}
+use Rattle.std.specs.Prelude.{Result, Ok, Err}
 
 -- ---- 1. records past the rings
 
@@ -57,7 +54,7 @@ module _ {Words : List ℕ → List ℕ → Type 0} {n : ℕ} {words words' : Li
 
 -- a call that is refused leaves all of them
 pub refusal-leaves-the-records : {Words : List ℕ → List ℕ → Type 0} {words words' : List ℕ} {records records' : List RingRecord} (why : Refusal) →
-    OverRecords Words (rings_in (built-is.Refused why)) words words' records records' → records' ≡ records
+    OverRecords Words (rings_in (Err why)) words words' records records' → records' ≡ records
 unfolding rings_in
 refusal-leaves-the-records why k = records-past-the-rings-stay k
 
@@ -91,46 +88,46 @@ module _ (words records rings : ℕ) where
 -- ---- 3. the builds
 
 -- a build over words: its contract, of a directory and the answer and all tables at exit, and its laws
-pub record WordForm {Word : Type 0} (plan : Plan Word) (lines links : List ℕ) (points : List Word) (Form : List ℕ → Built → List ℕ → List ℕ → List Word → List ℕ → Type 0) : Type 0 where
+pub record WordForm {Word : Type 0} (plan : Plan Word) (lines links : List ℕ) (points : List Word) (Form : List ℕ → Result ℕ Refusal → List ℕ → List ℕ → List Word → List ℕ → Type 0) : Type 0 where
   pub need : plan.directory_need ≡ directory_words plan.rings
-  pub one : (directory : List ℕ) {p q : Built} {pl pk ql qk : List ℕ} {pp qp : List Word} {pd qd : List ℕ} → Form directory p pl pk pp pd → Form directory q ql qk qp qd →
+  pub one : (directory : List ℕ) {p q : Result ℕ Refusal} {pl pk ql qk : List ℕ} {pp qp : List Word} {pd qd : List ℕ} → Form directory p pl pk pp pd → Form directory q ql qk qp qd →
       (p ≡ q) × (pl ≡ ql) × (pk ≡ qk) × (pp ≡ qp) × (pd ≡ qd)
-  pub exactly : (directory : List ℕ) {answer : Built} {lines' links' : List ℕ} {points' : List Word} {directory' : List ℕ} → Form directory answer lines' links' points' directory' →
+  pub exactly : (directory : List ℕ) {answer : Result ℕ Refusal} {lines' links' : List ℕ} {points' : List Word} {directory' : List ℕ} → Form directory answer lines' links' points' directory' →
       Exact plan lines links points directory answer
-  pub fills : (directory : List ℕ) {answer : Built} {lines' links' : List ℕ} {points' : List Word} {directory' : List ℕ} → plan.fit ≡ fit_is.Fits → JustRoom plan lines links points directory →
+  pub fills : (directory : List ℕ) {answer : Result ℕ Refusal} {lines' links' : List ℕ} {points' : List Word} {directory' : List ℕ} → plan.fit ≡ Ok tt → JustRoom plan lines links points directory →
       Form directory answer lines' links' points' directory' → Filled plan answer lines' links' points' directory'
 
 -- a build's answer against what it needs and the words and records that it is lent
-pub record RecordsExact {Word : Type 0} (plan : Plan Word) (lines links : List ℕ) (points : List Word) (words : List ℕ) (records : List RingRecord) (answer : Built) : Type 0 where
-  pub work-exact : WorkExact built-is.Refused answer plan.fit (length lines) plan.open_need (length links) plan.link_need
-  pub points-short-exactly : (WorkRoom plan.fit (length lines) plan.open_need (length links) plan.link_need × (length points < plan.point_need)) ↔ (answer ≡ built-is.Refused PointsShort)
+pub record RecordsExact {Word : Type 0} (plan : Plan Word) (lines links : List ℕ) (points : List Word) (words : List ℕ) (records : List RingRecord) (answer : Result ℕ Refusal) : Type 0 where
+  pub work-exact : WorkExact Err answer plan.fit (length lines) plan.open_need (length links) plan.link_need
+  pub points-short-exactly : (WorkRoom plan.fit (length lines) plan.open_need (length links) plan.link_need × (length points < plan.point_need)) ↔ (answer ≡ Err PointsShort)
   pub directory-short-exactly : (WorkRoom plan.fit (length lines) plan.open_need (length links) plan.link_need × (plan.point_need ≤ length points) × Short (length words) (length records) plan.rings)
-      ↔ (answer ≡ built-is.Refused DirectoryShort)
+      ↔ (answer ≡ Err DirectoryShort)
   pub given-exactly : (WorkRoom plan.fit (length lines) plan.open_need (length links) plan.link_need × (plan.point_need ≤ length points) × ((directory_words plan.rings ≤ length words) × (plan.rings ≤ length records)))
-      ↔ (answer ≡ built-is.Rings plan.rings)
+      ↔ (answer ≡ Ok plan.rings)
 
 -- tables that have just the room, and just as many records
 pub record JustRecords {Word : Type 0} (plan : Plan Word) (lines links : List ℕ) (points : List Word) (words : List ℕ) (records : List RingRecord) : Type 0 where
   pub tables-just : JustRoom plan lines links points words
   pub records-just : length records ≡ plan.rings
 
-module _ {Word : Type 0} {plan : Plan Word} {lines links : List ℕ} {points : List Word} {Form : List ℕ → Built → List ℕ → List ℕ → List Word → List ℕ → Type 0} (form : WordForm plan lines links points Form)
+module _ {Word : Type 0} {plan : Plan Word} {lines links : List ℕ} {points : List Word} {Form : List ℕ → Result ℕ Refusal → List ℕ → List ℕ → List Word → List ℕ → Type 0} (form : WordForm plan lines links points Form)
     (words : List ℕ) (records : List RingRecord) where
   abbrev lent : ℕ
   lent = lent_words (length words) (length records)
 
-  abbrev pub Records : Built → List ℕ → List ℕ → List Word → List ℕ → List RingRecord → Type 0
+  abbrev pub Records : Result ℕ Refusal → List ℕ → List ℕ → List Word → List ℕ → List RingRecord → Type 0
   Records answer lines' links' points' words' records' = OverRecords (λ directory directory'. Form directory answer lines' links' points' directory') (rings_in answer) words words' records records'
 
   -- two results that meet the contract on the same entry are equal
-  pub one-result : {p q : Built} {pl pk ql qk : List ℕ} {pp qp : List Word} {pw qw : List ℕ} {pr qr : List RingRecord} → Records p pl pk pp pw pr → Records q ql qk qp qw qr →
+  pub one-result : {p q : Result ℕ Refusal} {pl pk ql qk : List ℕ} {pp qp : List Word} {pw qw : List ℕ} {pr qr : List RingRecord} → Records p pl pk pp pw pr → Records q ql qk qp qw qr →
       (p ≡ q) × (pl ≡ ql) × (pk ≡ qk) × (pp ≡ qp) × (pw ≡ qw) × (pr ≡ qr)
   one-result {p} {q} {pw = pw} {qw = qw} a b =
       let same = form.one (take lent words) a.over-words.built b.over-words.built in
       let whole : pw ≡ qw = sym (take-append-drop lent pw) ∙ rw (same.4, a.over-words.rest) (rw (sym b.over-words.rest) (take-append-drop lent qw)) in
       (same.0, same.1, same.2, same.3, whole, a.records-are ∙ rw (whole, same.0) (sym b.records-are))
 
-  module _ {answer : Built} {lines' links' : List ℕ} {points' : List Word} {words' : List ℕ} {records' : List RingRecord} (k : Records answer lines' links' points' words' records') where
+  module _ {answer : Result ℕ Refusal} {lines' links' : List ℕ} {points' : List Word} {words' : List ℕ} {records' : List RingRecord} (k : Records answer lines' links' points' words' records') where
     -- each refusal exactly
     pub records-exactly : RecordsExact plan lines links points words records answer
     records-exactly =
@@ -147,7 +144,7 @@ module _ {Word : Type 0} {plan : Plan Word} {lines links : List ℕ} {points : L
         }
 
     -- lent just the room, a grid that fits gives all its rings, its points, words and records are the whole outputs, and both work tables are all zero
-    pub records-exact-room : plan.fit ≡ fit_is.Fits → JustRecords plan lines links points words records → Filled plan answer lines' links' points' words' × (records' ≡ records_from plan.records)
+    pub records-exact-room : plan.fit ≡ Ok tt → JustRecords plan lines links points words records → Filled plan answer lines' links' points' words' × (records' ≡ records_from plan.records)
     unfolding written rings_in
     records-exact-room fits just =
         (filled, k.records-are ∙ ap (λ (l : List ℕ). records_from l ++ drop (length (records_from l)) records) all_words ∙ nothing-past (records_from plan.records) records (length (records_from plan.records)) just-records)
@@ -235,10 +232,10 @@ module _ (rings : ℕ) (records : List RingRecord) (words : List ℕ) where
     unfolding ring_set_refused directory_short directory_words record_stride
     no-room-is-refused = rw (lt-ltb (length (words_from rings records words)) (6 * rings) (omega (arith, nothing-there.0, nothing-there.1)))
 
-    pub no-length-without-room : length_answer ps (words_from rings records words) rings ≡ text-is.Refused BadRingSet
+    pub no-length-without-room : length_answer ps (words_from rings records words) rings ≡ Err BadRingSet
     unfolding length_answer
     no-length-without-room = rw no-room-is-refused
 
-    pub no-text-without-room : (text : List ℕ) → (written_answer ps (words_from rings records words) rings text ≡ text-is.Refused BadRingSet) × (text_after ps (words_from rings records words) rings text ≡ text)
+    pub no-text-without-room : (text : List ℕ) → (written_answer ps (words_from rings records words) rings text ≡ Err BadRingSet) × (text_after ps (words_from rings records words) rings text ≡ text)
     unfolding written_answer text_after
     no-text-without-room text = (rw no-room-is-refused, rw no-room-is-refused)

@@ -15,7 +15,6 @@ use Rattle.scope.specs.Terrain.{Sheet}
 use Rattle.scope.specs.Room.{directory_words, point_words, band_point_words, band_directory_words}
 use Rattle.scope.specs.Tables.{written}
 use Rattle.scope.specs.Drawing.{segment_count, ring_count}
-use Rattle.isoringbuilder.specs.declared.Built.{Built}
 use Rattle.isoringbuilder.specs.Verdict.{Verdict, refused, passes, room_verdict, output_verdict}
 use Rattle.isoringbuilder.specs.Answers.{built}
 use Rattle.bands.specs.Bands.{band_room, band_outputs, band_built}
@@ -23,6 +22,8 @@ use Rattle.ringrecord.specs.declared.RingRecord.{RingRecord}
 use Rattle.ringrecord.specs.Copies.{room_for, copied_rings, records_after, words_from, words_after}
 use Rattle.ringrecord.proofs.Copied.{enough, front_length, all-rings}
 use Rattle.records.specs.Over.{rings_in, lent_words, read_words, OverWords, OverRecords}
+use Rattle.std.specs.Prelude.{Result}
+use Rattle.error.specs.declared.Refusal.{Refusal}
 
 -- no more words are lent than there are, and than so many records have
 pub lent_below : (words records : ℕ) → lent_words words records ≤ words
@@ -74,7 +75,7 @@ over-records Words {n} {m} {room} {words} {words'} {records} over as_many same i
 -- ---- the rings that are given have words
 
 -- of contour_rings, contour_lines and contours
-pub rings-fit : (v : Verdict) (A : Sheet) (dx dy points directory : ℕ) {answer : Built} → answer ≡ built v (output_verdict A dx dy points directory) A dx dy → directory_words (rings_in answer) ≤ directory
+pub rings-fit : (v : Verdict) (A : Sheet) (dx dy points directory : ℕ) {answer : Result ℕ Refusal} → answer ≡ built v (output_verdict A dx dy points directory) A dx dy → directory_words (rings_in answer) ≤ directory
 unfolding built output_verdict room_verdict rings_in directory_words record_stride
 rings-fit v A dx dy points directory is = rw is (by v (ltb points (point_words (segment_count A dx dy) (ring_count A dx dy))) (ltb directory (6 * ring_count A dx dy)) refl)
   where
@@ -86,7 +87,7 @@ rings-fit v A dx dy points directory is = rw is (by v (ltb points (point_words (
     by passes false false e = ltb-false directory (6 * ring_count A dx dy) e
 
 -- of isobands
-pub band-rings-fit : (v : Verdict) (L U : Sheet) (dx dy points directory : ℕ) {answer : Built} → answer ≡ band_built v (band_outputs L U dx dy points directory) L U dx dy → directory_words (rings_in answer) ≤ directory
+pub band-rings-fit : (v : Verdict) (L U : Sheet) (dx dy points directory : ℕ) {answer : Result ℕ Refusal} → answer ≡ band_built v (band_outputs L U dx dy points directory) L U dx dy → directory_words (rings_in answer) ≤ directory
 unfolding band_built band_outputs band_room band_directory_words rings_in directory_words record_stride
 band-rings-fit v L U dx dy points directory is =
     rw is (by v (ltb points (band_point_words (segment_count L dx dy) (ring_count L dx dy) (segment_count U dx dy) (ring_count U dx dy))) (ltb directory (6 * (ring_count L dx dy + ring_count U dx dy))) refl)

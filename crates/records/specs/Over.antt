@@ -1,16 +1,15 @@
 -- A call over a run of records that has directory words beside it: which of the words the word form is lent, and what a build leaves. Assumes nothing.
-use Rattle.std.specs.Prelude.{ℕ, ◌≤◌, min, ◌≡◌, Bool, cond, List, length, take, drop}
+use Rattle.std.specs.Prelude.{ℕ, ◌≤◌, min, ◌≡◌, Bool, cond, List, length, take, drop, Result, Ok, Err}
 use Rattle.scope.specs.Room.{directory_words}
 use Rattle.scope.specs.Tables.{written}
-use Rattle.isoringbuilder.specs.declared.Built.{Built}
-use Rattle.isoringbuilder.specs.declared.Built.TheVariants as built-is
 use Rattle.ringrecord.specs.declared.RingRecord.{RingRecord}
 use Rattle.ringrecord.specs.Records.{records_from}
+use Rattle.error.specs.declared.Refusal.{Refusal}
 
 -- how many rings an answer gives
-unfoldable pub rings_in : Built → ℕ
-rings_in (built-is.Rings n) = n
-rings_in (built-is.Refused why) = 0
+unfoldable pub rings_in : Result ℕ Refusal → ℕ
+rings_in (Ok n) = n
+rings_in (Err why) = 0
 
 -- a build is lent four words a record, as far as there are any
 unfoldable pub lent_words : ℕ → ℕ → ℕ

@@ -36,12 +36,12 @@ fn lent_words(words: usize, records: usize) -> usize
 }
 
 // How many rings an answer gives.
-fn rings_in(built: Built) -> u32
+fn rings_in(built: Result<u32, Refusal>) -> u32
     ensures { result ≡ rings_in built }
 {
     match built {
-        Built::Rings(n) => n,
-        Built::Refused(_) => 0,
+        Ok(n) => n,
+        Err(_) => 0,
     }
 }
 
@@ -56,7 +56,7 @@ fn rings_over(
     points: &mut [u16],
     directory: &mut [u32],
     room: usize,
-) -> Built
+) -> Result<u32, Refusal>
     ensures { OverWords (λ directory directory'. RingsBuilt values.now level dx dy lines.old links.old points.old directory result
         lines.new links.new points.new directory') (rings_in result) room directory.entry.now directory.exit.now }
 {
@@ -86,7 +86,7 @@ fn lines_over(
     points: &mut [f64],
     directory: &mut [u32],
     room: usize,
-) -> Built
+) -> Result<u32, Refusal>
     ensures { OverWords (λ directory directory'. LinesBuilt values.now level dx dy smooth (placing_of placement) lines.old links.old points.old directory result
         lines.new links.new points.new directory') (rings_in result) room directory.entry.now directory.exit.now }
 {
@@ -116,7 +116,7 @@ fn contours_over(
     points: &mut [u16],
     directory: &mut [u32],
     room: usize,
-) -> Built
+) -> Result<u32, Refusal>
     ensures { OverWords (λ directory directory'. ContoursBuilt values.now level dx dy lines.old links.old points.old directory result
         lines.new links.new points.new directory') (rings_in result) room directory.entry.now directory.exit.now }
 {
@@ -146,7 +146,7 @@ fn bands_over(
     points: &mut [u16],
     directory: &mut [u32],
     room: usize,
-) -> Built
+) -> Result<u32, Refusal>
     ensures { OverWords (λ directory directory'. BandBuilt values.now thresholds.now rule k dx dy lines.old links.old points.old directory result
         lines.new links.new points.new directory') (rings_in result) room directory.entry.now directory.exit.now }
 {
@@ -177,7 +177,7 @@ pub fn ring_records(
     points: &mut [u16],
     directory: &mut [u32],
     records: &mut [RingRecord],
-) -> Built
+) -> Result<u32, Refusal>
     ensures { OverRecords (λ directory directory'. RingsBuilt values.now level dx dy lines.old links.old points.old directory result
         lines.new links.new points.new directory') (rings_in result) directory.entry.now directory.exit.now records.old records.new }
 {
@@ -201,7 +201,7 @@ pub fn line_records(
     points: &mut [f64],
     directory: &mut [u32],
     records: &mut [RingRecord],
-) -> Built
+) -> Result<u32, Refusal>
     ensures { OverRecords (λ directory directory'. LinesBuilt values.now level dx dy smooth (placing_of placement) lines.old links.old points.old directory result
         lines.new links.new points.new directory') (rings_in result) directory.entry.now directory.exit.now records.old records.new }
 {
@@ -225,7 +225,7 @@ pub fn contour_records(
     points: &mut [u16],
     directory: &mut [u32],
     records: &mut [RingRecord],
-) -> Built
+) -> Result<u32, Refusal>
     ensures { OverRecords (λ directory directory'. ContoursBuilt values.now level dx dy lines.old links.old points.old directory result
         lines.new links.new points.new directory') (rings_in result) directory.entry.now directory.exit.now records.old records.new }
 {
@@ -249,7 +249,7 @@ pub fn isoband_records(
     points: &mut [u16],
     directory: &mut [u32],
     records: &mut [RingRecord],
-) -> Built
+) -> Result<u32, Refusal>
     ensures { OverRecords (λ directory directory'. BandBuilt values.now thresholds.now rule k dx dy lines.old links.old points.old directory result
         lines.new links.new points.new directory') (rings_in result) directory.entry.now directory.exit.now records.old records.new }
 {
@@ -281,7 +281,7 @@ fn faulty_over(points: &[u16], directory: &[u32], rings: u32, copied: bool) -> b
 }
 
 // geojson_length over the words that were copied.
-fn length_over(points: &[u16], directory: &[u32], rings: u32, copied: bool) -> TextAnswer
+fn length_over(points: &[u16], directory: &[u32], rings: u32, copied: bool) -> Result<u64, Refusal>
     requires { read_words rings copied ≤ length directory.now }
     ensures { result ≡ length_answer points.now (take (read_words rings copied) directory.now) rings }
 {
@@ -295,7 +295,7 @@ fn text_over(
     rings: u32,
     copied: bool,
     text: &mut [u8],
-) -> TextAnswer
+) -> Result<u64, Refusal>
     requires { read_words rings copied ≤ length directory.now }
     ensures { (result ≡ written_answer points.now (take (read_words rings copied) directory.now) rings text.old) × (text.new ≡ text_after points.now (take (read_words rings copied) directory.now) rings text.old) }
 {
@@ -327,7 +327,7 @@ pub fn record_text_length(
     records: &[RingRecord],
     rings: u32,
     directory: &mut [u32],
-) -> TextAnswer
+) -> Result<u64, Refusal>
     ensures { (result ≡ length_answer points.now (words_from rings records.now directory.old) rings) × (directory.new ≡ words_after rings records.now directory.old) }
 {
     let copied = words_from_records(records, rings, directory);
@@ -341,7 +341,7 @@ pub fn write_record_text(
     rings: u32,
     directory: &mut [u32],
     text: &mut [u8],
-) -> TextAnswer
+) -> Result<u64, Refusal>
     ensures { (result ≡ written_answer points.now (words_from rings records.now directory.old) rings text.old) × (text.new ≡ text_after points.now (words_from rings records.now directory.old) rings text.old) × (directory.new ≡ words_after rings records.now directory.old) }
 {
     let copied = words_from_records(records, rings, directory);

@@ -30,19 +30,19 @@ pub fn level(case: Case) -> Level {
 }
 
 // The first report of one threshold.
-fn report_first(case: Case, grid: &[f64]) -> FirstReport {
+fn report_first(case: Case, grid: &[f64]) -> Result<FirstReport, Refusal> {
     first_report(grid, level(case), case.dx, case.dy)
 }
 
 // The first report of a band.
-fn report_band_first(case: Case, grid: &[f64], thresholds: &[f64]) -> FirstReport {
+fn report_band_first(case: Case, grid: &[f64], thresholds: &[f64]) -> Result<FirstReport, Refusal> {
     let list = case.list;
     let rule = list.rule;
     band_first_report(grid, thresholds, rule, list.k, case.dx, case.dy)
 }
 
 // The second report of one threshold.
-fn report_second(case: Case, grid: &[f64], lines: &mut [u32], links: &mut [u32]) -> SecondReport {
+fn report_second(case: Case, grid: &[f64], lines: &mut [u32], links: &mut [u32]) -> Result<SecondReport, Refusal> {
     second_report(grid, level(case), case.dx, case.dy, lines, links)
 }
 
@@ -53,7 +53,7 @@ fn report_band_second(
     thresholds: &[f64],
     lines: &mut [u32],
     links: &mut [u32],
-) -> SecondReport {
+) -> Result<SecondReport, Refusal> {
     let list = case.list;
     let rule = list.rule;
     band_second_report(
@@ -68,7 +68,7 @@ fn build_rings(
     links: &mut [u32],
     points: &mut [u16],
     directory: &mut [u32],
-) -> Built {
+) -> Result<u32, Refusal> {
     let level = level(case);
     contour_rings(
         grid, level, case.dx, case.dy, lines, links, points, directory,
@@ -82,7 +82,7 @@ fn build_contour(
     links: &mut [u32],
     points: &mut [u16],
     directory: &mut [u32],
-) -> Built {
+) -> Result<u32, Refusal> {
     let level = level(case);
     contours(
         grid, level, case.dx, case.dy, lines, links, points, directory,
@@ -97,7 +97,7 @@ fn build_band(
     links: &mut [u32],
     points: &mut [u16],
     directory: &mut [u32],
-) -> Built {
+) -> Result<u32, Refusal> {
     let list = case.list;
     let rule = list.rule;
     isobands(
@@ -112,7 +112,7 @@ fn build_lines(
     links: &mut [u32],
     points: &mut [f64],
     directory: &mut [u32],
-) -> Built {
+) -> Result<u32, Refusal> {
     let drawing = case.drawing;
     contour_lines(
         grid,
@@ -129,7 +129,7 @@ fn build_lines(
 }
 
 // The first report of a band, or of one threshold.
-fn run_first(case: Case, grid: &[f64], thresholds: &[f64]) -> FirstReport {
+fn run_first(case: Case, grid: &[f64], thresholds: &[f64]) -> Result<FirstReport, Refusal> {
     let build = case.build;
     match build {
         Build::Band => report_band_first(case, grid, thresholds),
@@ -144,7 +144,7 @@ fn run_second(
     thresholds: &[f64],
     lines: &mut [u32],
     links: &mut [u32],
-) -> SecondReport {
+) -> Result<SecondReport, Refusal> {
     let build = case.build;
     match build {
         Build::Band => report_band_second(case, grid, thresholds, lines, links),
@@ -162,7 +162,7 @@ fn run_build(
     points: &mut [u16],
     floats: &mut [f64],
     directory: &mut [u32],
-) -> Built {
+) -> Result<u32, Refusal> {
     let build = case.build;
     match build {
         Build::Rings => build_rings(case, grid, lines, links, points, directory),

@@ -131,9 +131,9 @@ pub fn grid_code(code: u32) -> u32 {
 }
 
 // The code of a first report that is to have these counts.
-pub fn first_code(report: FirstReport, counts: Counts) -> u32 {
+pub fn first_code(report: Result<FirstReport, Refusal>, counts: Counts) -> u32 {
     match report {
-        FirstReport::Refused(refusal) => error::number(refusal),
+        Err(refusal) => error::number(refusal),
         FirstReport::Room { segments, peak } => {
             if segments == counts.segments && peak == counts.peak {
                 0
@@ -145,9 +145,9 @@ pub fn first_code(report: FirstReport, counts: Counts) -> u32 {
 }
 
 // The code of a second report that is to have these counts.
-pub fn second_code(report: SecondReport, counts: Counts) -> u32 {
+pub fn second_code(report: Result<SecondReport, Refusal>, counts: Counts) -> u32 {
     match report {
-        SecondReport::Refused(refusal) => error::number(refusal),
+        Err(refusal) => error::number(refusal),
         SecondReport::Room {
             segments,
             rings,
@@ -168,9 +168,9 @@ pub fn second_code(report: SecondReport, counts: Counts) -> u32 {
 }
 
 // The code of a build that is to have this many rings.
-pub fn built_code(built: Built, rings: u32) -> u32 {
+pub fn built_code(built: Result<u32, Refusal>, rings: u32) -> u32 {
     match built {
-        Built::Refused(refusal) => error::number(refusal),
-        Built::Rings(count) => { if count == rings { 0 } else { MISCOUNTED } }
+        Err(refusal) => error::number(refusal),
+        Ok(count) => { if count == rings { 0 } else { MISCOUNTED } }
     }
 }

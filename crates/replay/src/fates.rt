@@ -18,12 +18,12 @@ fn is_recorded(record: &[u32], class: u32, owner: u32) -> bool {
 }
 
 // Whether ring k has the fate that its record says. The number behind the last is that of no ring.
-fn same_fate(fate: RingFate, k: u32, rings: u32, record: &[u32]) -> bool {
+fn same_fate(fate: Result<RingFate, Refusal>, k: u32, rings: u32, record: &[u32]) -> bool {
     match fate {
         RingFate::Polygon => is_recorded(record, POLYGON, k),
         RingFate::Hole(owner, _) => is_recorded(record, HOLE, owner),
         RingFate::Dropped => is_recorded(record, HOLE, NO_OWNER),
-        RingFate::Refused(refusal) => (k == rings) & (error::number(refusal) == 15),
+        Err(refusal) => (k == rings) & (error::number(refusal) == 15),
     }
 }
 

@@ -11,8 +11,8 @@ use ringrecord::RingRecord;
 #[derive(Clone, Copy)]
 pub struct Answers {
     pub faulty: bool,
-    pub length: TextAnswer,
-    pub written: TextAnswer,
+    pub length: Result<u64, Refusal>,
+    pub written: Result<u64, Refusal>,
 }
 
 // The three readers over the first `n` records.

@@ -107,8 +107,8 @@ fn judged(
     let built = step.answer;
     let state = step.state;
     match built {
-        Built::Refused(_) => advanced(run, state, 0, false),
-        Built::Rings(rings) => {
+        Err(_) => advanced(run, state, 0, false),
+        Ok(rings) => {
             let holds = needs_hold(answer.withheld, rings, state.fresh)
                 & given_hold(run.rings, rings, records, listed, points, directory);
             advanced(run, state, rings, holds)

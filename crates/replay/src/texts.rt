@@ -46,22 +46,22 @@ fn same_bytes(text: &[u8; BYTES], wanted: &[u8; BYTES]) -> bool {
 }
 
 // The code of an answer.
-fn text_code(answer: TextAnswer) -> u32 {
+fn text_code(answer: Result<u64, Refusal>) -> u32 {
     match answer {
-        TextAnswer::Bytes(_) => 0,
-        TextAnswer::Refused(refusal) => error::number(refusal),
+        Ok(_) => 0,
+        Err(refusal) => error::number(refusal),
     }
 }
 
 // How many bytes an answer gives.
-fn byte_count(answer: TextAnswer) -> u64 {
+fn byte_count(answer: Result<u64, Refusal>) -> u64 {
     match answer {
-        TextAnswer::Bytes(count) => count,
-        TextAnswer::Refused(_) => 0,
+        Ok(count) => count,
+        Err(_) => 0,
     }
 }
 
-fn same_answer(x: TextAnswer, y: TextAnswer) -> bool {
+fn same_answer(x: Result<u64, Refusal>, y: Result<u64, Refusal>) -> bool {
     (text_code(x) == text_code(y)) & (byte_count(x) == byte_count(y))
 }
 

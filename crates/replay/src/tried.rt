@@ -22,7 +22,7 @@ const SOILED: RingRecord = RingRecord {
 // What a build answered, and the array that it was lent the front of.
 #[derive(Clone, Copy)]
 pub struct Tried {
-    pub answer: Built,
+    pub answer: Result<u32, Refusal>,
     pub records: [RingRecord; ROOM],
 }
 

@@ -14,8 +14,6 @@ use Rattle.scope.specs.Limits.{record_stride}
 use Rattle.scope.specs.Room.{open_words, link_words}
 use Rattle.grid.specs.Grid.{bad_side}
 use Rattle.packing.specs.Cleared.{cleared}
-use Rattle.isoringbuilder.specs.declared.Built.{Built}
-use Rattle.isoringbuilder.specs.declared.Built.TheVariants as built-is
 use Rattle.trying.specs.declared.Trial.{Trial}
 use Rattle.trying.specs.Notes.{frontier_noted}
 use Rattle.trying.specs.Trying.{Tried, row_tried}
@@ -26,6 +24,7 @@ use Rattle.giving.specs.Values.{given_of}
 use Rattle.rows.specs.Called.{Outcome, row_words, trial_before, tried, lines_tried, answer_by, filed, played, state_after, taken, refused_by, lines_restored, settled, advanced, row_called, zeroed_by, end_called}
 use Rattle.rows.specs.declared.Rows.{Rows}
 use Rattle.rows.proofs.Samples.{no-words}
+use Rattle.std.specs.Prelude.{Result, Ok, Err}
 
 -- ---- the trial
 
@@ -60,7 +59,7 @@ left s lower most rings g = record {
     held = g.play.held;
     above = lower;
   };
-  answer = built-is.Rings rings;
+  answer = Ok rings;
   lines = frontier_noted s.dx g.links g.lines g.play.count;
   links = g.links;
   points = g.points;
@@ -89,7 +88,7 @@ module _ (s : Rows) (lower lines links points directory : List ℕ) (peak rings 
           held = play.held;
           above = lower;
         };
-        answer = built-is.Rings rings;
+        answer = Ok rings;
         lines = lines₃;
         links = links₂;
         points = points₂;
@@ -113,19 +112,19 @@ module _ (s : Rows) (lower lines links points directory : List ℕ) where
   -- the two ways on, by the answer that the trial leads to
   settled-refused : (why : Refusal) (words lines' : List ℕ) → words ≡ lines_tried s lower lines
       → lines' ≡ lines_restored s.dx s.drawn s.count links words
-      → ◌≡◌ {A = Outcome} (record { state = s; answer = built-is.Refused why; lines = lines'; links = links; points = points; directory = directory })
-      (settled s lower lines links points directory (built-is.Refused why))
+      → ◌≡◌ {A = Outcome} (record { state = s; answer = Err why; lines = lines'; links = links; points = points; directory = directory })
+      (settled s lower lines links points directory (Err why))
   unfolding settled refused_by
   settled-refused why words lines' are-tried are-restored = rw (are-restored, are-tried)
 
   settled-taken : (rings : ℕ) (words : List ℕ) (t : Trial) → words ≡ lines_tried s lower lines → t ≡ (tried s lower lines).trial
-      → taken s lower words links points directory t.peak rings ≡ settled s lower lines links points directory (built-is.Rings rings)
+      → taken s lower words links points directory t.peak rings ≡ settled s lower lines links points directory (Ok rings)
   unfolding settled
   settled-taken rings words t are-tried is-trial = rw (are-tried, is-trial)
 
   -- where the open table has room for the lines that are open, the answer settles the call
   module _ (enough : open_words s.dx s.count ≤ length lines) (t : Trial) (is-trial : t ≡ (tried s lower lines).trial) (words : List ℕ)
-      (are-tried : words ≡ lines_tried s lower lines) (answer : Built)
+      (are-tried : words ≡ lines_tried s lower lines) (answer : Result ℕ Refusal)
       (answers : answer ≡ answer_by s.dx (length lines) (length links) (length points) (length directory / record_stride) t) where
     settles : settled s lower lines links points directory answer ≡ advanced s lower lines links points directory
     unfolding advanced
@@ -135,18 +134,18 @@ module _ (s : Rows) (lower lines links points directory : List ℕ) where
         ∙ ap (settled s lower lines links points directory) (sym answers)))
 
     -- refused: the frontier is noted anew
-    pub refused-after : (why : Refusal) → answer ≡ built-is.Refused why → (lines' : List ℕ)
+    pub refused-after : (why : Refusal) → answer ≡ Err why → (lines' : List ℕ)
         → lines' ≡ lines_restored s.dx s.drawn s.count links words
         → ◌≡◌ {A = Outcome} (record { state = s; answer = answer; lines = lines'; links = links; points = points; directory = directory })
         (advanced s lower lines links points directory)
     refused-after why is lines' are-restored =
-        ap (λ (b : Built). record { state = s; answer = b; lines = lines'; links = links; points = points; directory = directory }) is
+        ap (λ (b : Result ℕ Refusal). record { state = s; answer = b; lines = lines'; links = links; points = points; directory = directory }) is
         ∙ settled-refused why words lines' are-tried are-restored
         ∙ ap (settled s lower lines links points directory) (sym is)
         ∙ settles
 
     -- taken: the row is drawn
-    pub taken-after : (rings : ℕ) → answer ≡ built-is.Rings rings
+    pub taken-after : (rings : ℕ) → answer ≡ Ok rings
         → taken s lower words links points directory t.peak rings ≡ advanced s lower lines links points directory
     taken-after rings is = settled-taken rings words t are-tried is-trial ∙ ap (settled s lower lines links points directory) (sym is) ∙ settles
 
@@ -157,11 +156,11 @@ module _ (s : Rows) (lower lines links points directory : List ℕ) where
       by (ltb (length lines) (open_words s.dx s.count))
       (answer_by s.dx (length lines) (length links) (length points) (length directory / record_stride) (tried s lower lines).trial)
     where
-      by : (short : Bool) (answer : Built)
+      by : (short : Bool) (answer : Result ℕ Refusal)
           → (cond short (refused_by s lines links points directory OpenShort) (settled s lower lines links points directory answer)).state.dx ≡ s.dx
       by true answer = refl
-      by false (built-is.Refused why) = refl
-      by false (built-is.Rings n) = refl
+      by false (Err why) = refl
+      by false (Ok n) = refl
 
 -- ---- a row of values
 
@@ -196,11 +195,11 @@ module _ (s : Rows) (lines links points directory : List ℕ) where
         rw good
         (ap (λ (k : Outcome). zeroed_by k k.answer) (advances ∙ ap (λ (lower : List ℕ). advanced s lower lines links points directory) no-words))
 
-    pub end_refused : (why : Refusal) → o.answer ≡ built-is.Refused why → o ≡ end_called s lines links points directory
+    pub end_refused : (why : Refusal) → o.answer ≡ Err why → o ≡ end_called s lines links points directory
     unfolding zeroed_by
     end_refused why is = ap (zeroed_by o) (sym is) ∙ ends
 
-    pub end-zeroes : (n : ℕ) → o.answer ≡ built-is.Rings n → (lines' links' : List ℕ)
+    pub end-zeroes : (n : ℕ) → o.answer ≡ Ok n → (lines' links' : List ℕ)
         → lines' ≡ cleared o.lines (open_words o.state.dx o.state.peak) → links' ≡ cleared o.links (link_words o.state.fresh)
         → ◌≡◌ {A = Outcome} (record { state = o.state; answer = o.answer; lines = lines'; links = links'; points = o.points; directory = o.directory })
         (end_called s lines links points directory)

@@ -10,10 +10,10 @@ use Rattle.scope.specs.Limits.{side_limit}
 use Rattle.laws.proofs.Tests.{neither}
 use Rattle.grid.specs.Grid.{bad_side}
 use Rattle.scope.specs.declared.Level.{Level}
-use Rattle.isoringbuilder.specs.declared.Built.TheVariants as built-is
 use Rattle.rows.specs.Called.{blank, begun_state, begun_answer}
 use Rattle.rows.specs.declared.Rows.{Rows}
 use Rattle.rows.specs.declared.Step.{Step}
+use Rattle.std.specs.Prelude.{Ok, Err}
 
 -- at most is not above
 pub not-above : (m n : ℕ) → leb m n ≡ not (ltb n m)
@@ -72,10 +72,10 @@ module _ (dx dy : ℕ) where
 
   -- what `begin` gives where the sides are within the limit, and where they are not
   module _ (level : Level) where
-    pub begun : bad_side dx dy ≡ false → (s : Rows) → s ≡ blank level dx dy → ◌≡◌ {A = Step} (record { state = s; answer = built-is.Rings 0 }) (record { state = begun_state level dx dy; answer = begun_answer dx dy })
+    pub begun : bad_side dx dy ≡ false → (s : Rows) → s ≡ blank level dx dy → ◌≡◌ {A = Step} (record { state = s; answer = Ok 0 }) (record { state = begun_state level dx dy; answer = begun_answer dx dy })
     unfolding begun_state begun_answer
     begun good s is = rw (good, is)
 
-    pub not-begun : bad_side dx dy ≡ true → (s : Rows) → s ≡ blank level 0 0 → ◌≡◌ {A = Step} (record { state = s; answer = built-is.Refused BadSide }) (record { state = begun_state level dx dy; answer = begun_answer dx dy })
+    pub not-begun : bad_side dx dy ≡ true → (s : Rows) → s ≡ blank level 0 0 → ◌≡◌ {A = Step} (record { state = s; answer = Err BadSide }) (record { state = begun_state level dx dy; answer = begun_answer dx dy })
     unfolding begun_state begun_answer
     not-begun bad s is = rw (bad, is)

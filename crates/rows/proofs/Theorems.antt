@@ -27,8 +27,6 @@ use Rattle.packing.specs.Cleared.{cleared}
 use Rattle.packing.proofs.Laws.{cleared-is-zeroed}
 use Rattle.scope.specs.declared.Level.{Level}
 use Rattle.isoringbuilder.specs.Verdict.{Verdict, refused, passes}
-use Rattle.isoringbuilder.specs.declared.Built.{Built}
-use Rattle.isoringbuilder.specs.declared.Built.TheVariants as built-is
 use Rattle.giving.proofs.Most.{most-is-no-less}
 use Rattle.rows.specs.Called.{Outcome, no_words, row_words, blank, begun_state, refused_by, advanced, row_called, zeroed_by, end_called}
 use Rattle.rows.specs.Turns.{call_peak, call_rings, call_verdict, peak_to, held_to, values_of_row, Taken, none, one_more}
@@ -38,18 +36,19 @@ use Rattle.rows.proofs.Standing.{Standing, standing-begins, standing-longer}
 use Rattle.rows.proofs.Together.{row-over}
 use Rattle.rows.proofs.Call.{drop-further, peak-most, most-below}
 use Rattle.rows.proofs.Turn.{Gives, Decided, verdict, advance-decided}
+use Rattle.std.specs.Prelude.{Result, Ok, Err}
 
 -- an answer is not both
-unlike : (why : Refusal) (n : ℕ) → built-is.Refused why ≡ built-is.Rings n → ⊥
+unlike : (why : Refusal) (n : ℕ) → Err why ≡ Ok n → ⊥
 unlike why n e = omega (arith, ap which e)
   where
-    which : Built → ℕ
-    which (built-is.Refused why) = 0
-    which (built-is.Rings n) = 1
+    which : Result ℕ Refusal → ℕ
+    which (Err why) = 0
+    which (Ok n) = 1
 
 -- an end that is taken: the last rings are given out, no line is open, and the words that the calls have used are 0
 pub record Ends (A : Sheet) (dx dy : ℕ) (lines links points directory : List ℕ) (o : Outcome) : Type 0 where
-  pub answers : o.answer ≡ built-is.Rings (length (call_rings A dx dy))
+  pub answers : o.answer ≡ Ok (length (call_rings A dx dy))
   pub is-over : o.state.drawn ≡ suc dy
   pub none_open : o.state.count ≡ 0
   pub points-are : o.points ≡ written (packed_points (call_rings A dx dy)) points
@@ -200,11 +199,11 @@ module _ (values : List Float) (level : Level) (dx dy : ℕ) (some-columns : 1 �
     directory = o.directory;
   }
 
-  zeroed-rings : (o : Outcome) (n : ℕ) → zeroed_by o (built-is.Rings n) ≡ all_zero o
+  zeroed-rings : (o : Outcome) (n : ℕ) → zeroed_by o (Ok n) ≡ all_zero o
   unfolding zeroed_by
   zeroed-rings o n = refl
 
-  zeroed-taken : (o : Outcome) (n : ℕ) → o.answer ≡ built-is.Rings n → zeroed_by o o.answer ≡ all_zero o
+  zeroed-taken : (o : Outcome) (n : ℕ) → o.answer ≡ Ok n → zeroed_by o o.answer ≡ all_zero o
   zeroed-taken o n e = ap (zeroed_by o) e ∙ zeroed-rings o n
 
   ended_by : (lines links points directory : List ℕ) (o : Outcome) → Gives A level dx dy dy lines links points directory o → Ends A dx dy lines links points directory (zeroed_by o o.answer)

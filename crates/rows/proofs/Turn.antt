@@ -19,8 +19,6 @@ use Rattle.laws.proofs.Borders.{first-cell-keeps-lines}
 use Rattle.scan.specs.Rows as scan
 use Rattle.scope.specs.declared.Level.{Level}
 use Rattle.isoringbuilder.specs.Verdict.{Verdict, refused, passes}
-use Rattle.isoringbuilder.specs.declared.Built.{Built}
-use Rattle.isoringbuilder.specs.declared.Built.TheVariants as built-is
 use Rattle.trying.specs.declared.Trial.{Trial}
 use Rattle.giving.proofs.Most.{most-is-no-less}
 use Rattle.rows.specs.Called.{Outcome, tried, lines_tried, answer_by, taken, refused_by, settled, advanced}
@@ -28,10 +26,11 @@ use Rattle.rows.specs.Turns.{points_in, call_peak, call_held, call_rings, call_v
 use Rattle.rows.specs.declared.Rows.{Rows}
 use Rattle.rows.proofs.Standing.{state_of, Standing}
 use Rattle.rows.proofs.Call.{room-for-records, peak-most, peak-is, most-is, rings-is, points-is, restored, lines-past, links-past, stands, points-out, directory-out}
+use Rattle.std.specs.Prelude.{Result, Ok, Err}
 
 -- a call that is taken: the rings that close in row r are given out, state and tables stand one row further, and words past the need stay
 pub record Gives (A : Sheet) (level : Level) (dx dy r : ℕ) (lines links points directory : List ℕ) (o : Outcome) : Type 0 where
-  pub answers : o.answer ≡ built-is.Rings (length (call_rings A dx r))
+  pub answers : o.answer ≡ Ok (length (call_rings A dx r))
   pub stands-next : Standing A level dx dy (suc r) o.state o.lines o.links
   pub points-are : o.points ≡ written (packed_points (call_rings A dx r)) points
   pub directory-is : o.directory ≡ written (bare_records 0 0 (call_rings A dx r)) directory
@@ -58,17 +57,17 @@ module _ (A : Sheet) {dx dy : ℕ} (out : Outside A dx dy) (columns : dx ≤ sid
   abbrev o : Outcome
   o = advanced t lower lines links points directory
 
-  abbrev answer : Built
+  abbrev answer : Result ℕ Refusal
   answer = answer_by dx (length lines) (length links) (length points) (length directory / record_stride) trial
 
   -- the answer by the four tests
-  abbrev chosen : Bool → Bool → Bool → Bool → Built
+  abbrev chosen : Bool → Bool → Bool → Bool → Result ℕ Refusal
   chosen a b c d =
-      cond a (built-is.Refused OpenShort)
-      (cond b (built-is.Refused LinksShort)
-      (cond c (built-is.Refused PointsShort)
-      (cond d (built-is.Refused DirectoryShort)
-      (built-is.Rings (length (call_rings A dx r))))))
+      cond a (Err OpenShort)
+      (cond b (Err LinksShort)
+      (cond c (Err PointsShort)
+      (cond d (Err DirectoryShort)
+      (Ok (length (call_rings A dx r))))))
 
   answer-chosen : answer
       ≡ chosen (ltb (length lines) (open_words dx (call_peak A dx r))) (ltb (length links) (link_words (call_held A dx r))) (ltb (length points) (2 * points_in (call_rings A dx r)))
@@ -84,11 +83,11 @@ module _ (A : Sheet) {dx dy : ℕ} (out : Outside A dx dy) (columns : dx ≤ sid
       )
       refl
 
-  settled-refused : (why : Refusal) → settled t lower lines links points directory (built-is.Refused why) ≡ refused_by t lines links points directory why
+  settled-refused : (why : Refusal) → settled t lower lines links points directory (Err why) ≡ refused_by t lines links points directory why
   unfolding settled
   settled-refused why = ap (λ (l : List ℕ). refused_by t l links points directory why) (restored A out columns rows level r hr s lines links now lower below points directory)
 
-  settled-taken : (n : ℕ) → settled t lower lines links points directory (built-is.Rings n) ≡ taken t lower (lines_tried t lower lines) links points directory trial.peak n
+  settled-taken : (n : ℕ) → settled t lower lines links points directory (Ok n) ≡ taken t lower (lines_tried t lower lines) links points directory trial.peak n
   unfolding settled
   settled-taken n = refl
 
@@ -102,7 +101,7 @@ module _ (A : Sheet) {dx dy : ℕ} (out : Outside A dx dy) (columns : dx ≤ sid
       before : length (drawing_after A dx r 0).lines ≤ call_peak A dx r
       before = unfold open_after in omega (arith, first-cell-keeps-lines A out r, peak-most A dx r, most-is-no-less length A dx r (suc dx) 0 (omega arith))
 
-  settles : (why : Built) → answer ≡ why → ltb (length lines) (open_words dx now.g.play.count) ≡ false → o ≡ settled t lower lines links points directory why
+  settles : (why : Result ℕ Refusal) → answer ≡ why → ltb (length lines) (open_words dx now.g.play.count) ≡ false → o ≡ settled t lower lines links points directory why
   unfolding advanced
   settles why e early = rw (early, e) refl
 
@@ -119,16 +118,16 @@ module _ (A : Sheet) {dx dy : ℕ} (out : Outside A dx dy) (columns : dx ≤ sid
         where
           early : (x : Bool) → ltb (length lines) (open_words dx now.g.play.count) ≡ x → o ≡ refused_by t lines links points directory OpenShort
           early true k = unfold advanced in rw k refl
-          early false k = settles (built-is.Refused OpenShort) e k ∙ settled-refused OpenShort
+          early false k = settles (Err OpenShort) e k ∙ settled-refused OpenShort
       by false true c d ea eb ec ed e =
-          settles (built-is.Refused LinksShort) e (lines_fit (ltb-false (length lines) (open_words dx (call_peak A dx r)) ea)) ∙ settled-refused LinksShort
+          settles (Err LinksShort) e (lines_fit (ltb-false (length lines) (open_words dx (call_peak A dx r)) ea)) ∙ settled-refused LinksShort
       by false false true d ea eb ec ed e =
-          settles (built-is.Refused PointsShort) e (lines_fit (ltb-false (length lines) (open_words dx (call_peak A dx r)) ea)) ∙ settled-refused PointsShort
+          settles (Err PointsShort) e (lines_fit (ltb-false (length lines) (open_words dx (call_peak A dx r)) ea)) ∙ settled-refused PointsShort
       by false false false true ea eb ec ed e =
-          settles (built-is.Refused DirectoryShort) e (lines_fit (ltb-false (length lines) (open_words dx (call_peak A dx r)) ea)) ∙ settled-refused DirectoryShort
+          settles (Err DirectoryShort) e (lines_fit (ltb-false (length lines) (open_words dx (call_peak A dx r)) ea)) ∙ settled-refused DirectoryShort
       by false false false false ea eb ec ed e =
           subst (Gives A level dx dy r lines links points directory)
-          (sym (settles (built-is.Rings (length (call_rings A dx r))) e (lines_fit (ltb-false (length lines) (open_words dx (call_peak A dx r)) ea)) ∙ settled-taken (length (call_rings A dx r))))
+          (sym (settles (Ok (length (call_rings A dx r))) e (lines_fit (ltb-false (length lines) (open_words dx (call_peak A dx r)) ea)) ∙ settled-taken (length (call_rings A dx r))))
           (unfold taken in record {
             answers = refl;
             stands-next = stands A out columns rows level r hr s lines links now lower below points directory open-fits links-fit points-fit directory-fits;

@@ -1,6 +1,6 @@
 -- What each call answers and leaves, on every input, as a function of the state and the tables that it is handed: a trial over the frontier's words, a verdict,
 -- and then the row machine or the frontier as it was. Assumes nothing.
-use Rattle.std.specs.Prelude.{ℕ, zero, suc, ◌+◌, ◌*◌, ◌/◌, max, false, cond, not, ◌||◌, List, [], ◌∷◌, eqb, ltb, Float, length}
+use Rattle.std.specs.Prelude.{ℕ, zero, suc, ◌+◌, ◌*◌, ◌/◌, max, false, cond, not, ◌||◌, List, [], ◌∷◌, eqb, ltb, Float, length, Result, Ok, Err}
 use Rattle.error.specs.declared.Refusal.{Refusal}
 use Rattle.error.specs.declared.Refusal.TheVariants.{BadSide, OpenShort, LinksShort, PointsShort, DirectoryShort, BadRow, BadTurn}
 use Rattle.scope.specs.Terrain.{Sheet, above_at, terrain}
@@ -10,8 +10,6 @@ use Rattle.grid.specs.Grid.{bad_side}
 use Rattle.scan.specs.Rows.{word_from}
 use Rattle.packing.specs.Cleared.{cleared}
 use Rattle.scope.specs.declared.Level.{Level}
-use Rattle.isoringbuilder.specs.declared.Built.{Built}
-use Rattle.isoringbuilder.specs.declared.Built.TheVariants as built-is
 use Rattle.trying.specs.declared.Trial.{Trial}
 use Rattle.trying.specs.Notes.{frontier_noted}
 use Rattle.trying.specs.Trying.{Tried, row_tried}
@@ -21,7 +19,7 @@ use Rattle.rows.specs.declared.Rows.{Rows}
 -- the state, the answer and every table at exit
 pub record Outcome : Type 0 where
   pub state : Rows
-  pub answer : Built
+  pub answer : Result ℕ Refusal
   pub lines : List ℕ
   pub links : List ℕ
   pub points : List ℕ
@@ -58,8 +56,8 @@ blank level dx dy = record {
 unfoldable pub begun_state : Level → ℕ → ℕ → Rows
 begun_state level dx dy = cond (bad_side dx dy) (blank level 0 0) (blank level dx dy)
 
-unfoldable pub begun_answer : ℕ → ℕ → Built
-begun_answer dx dy = cond (bad_side dx dy) (built-is.Refused BadSide) (built-is.Rings 0)
+unfoldable pub begun_answer : ℕ → ℕ → Result ℕ Refusal
+begun_answer dx dy = cond (bad_side dx dy) (Err BadSide) (Ok 0)
 
 -- ---- a row of cells
 
@@ -77,13 +75,13 @@ module _ (s : Rows) (lower lines : List ℕ) where
   lines_tried = cond (eqb s.drawn 0) lines tried.words
 
 -- numbers 5 to 8 by what the trial has counted, the words that are lent and the records that there is room for
-unfoldable pub answer_by : ℕ → ℕ → ℕ → ℕ → ℕ → Trial → Built
+unfoldable pub answer_by : ℕ → ℕ → ℕ → ℕ → ℕ → Trial → Result ℕ Refusal
 answer_by dx lines links points records t =
-    cond (ltb lines (open_words dx t.peak)) (built-is.Refused OpenShort)
-    (cond (ltb links (link_words t.most)) (built-is.Refused LinksShort)
-    (cond (ltb points (2 * t.points)) (built-is.Refused PointsShort)
-    (cond (ltb records t.rings) (built-is.Refused DirectoryShort)
-    (built-is.Rings t.rings))))
+    cond (ltb lines (open_words dx t.peak)) (Err OpenShort)
+    (cond (ltb links (link_words t.most)) (Err LinksShort)
+    (cond (ltb points (2 * t.points)) (Err PointsShort)
+    (cond (ltb records t.rings) (Err DirectoryShort)
+    (Ok t.rings))))
 
 -- the drawing, over the tables as the trial leaves them
 module _ (s : Rows) (lower lines links points directory : List ℕ) where
@@ -118,7 +116,7 @@ module _ (s : Rows) (lower lines links points directory : List ℕ) where
   unfoldable pub taken : ℕ → ℕ → Outcome
   taken peak rings = record {
     state = state_after peak;
-    answer = built-is.Rings rings;
+    answer = Ok rings;
     lines = frontier_noted s.dx played.links played.lines played.play.count;
     links = played.links;
     points = played.points;
@@ -127,7 +125,7 @@ module _ (s : Rows) (lower lines links points directory : List ℕ) where
 
 -- all as it was
 unfoldable pub refused_by : Rows → List ℕ → List ℕ → List ℕ → List ℕ → Refusal → Outcome
-refused_by s lines links points directory why = record { state = s; answer = built-is.Refused why; lines = lines; links = links; points = points; directory = directory }
+refused_by s lines links points directory why = record { state = s; answer = Err why; lines = lines; links = links; points = points; directory = directory }
 
 -- the open table behind a trial that is refused: the frontier is noted anew, but for the first row, which is not tried over it
 unfoldable pub lines_restored : ℕ → ℕ → ℕ → List ℕ → List ℕ → List ℕ
@@ -135,9 +133,9 @@ lines_restored dx drawn count links lines = cond (eqb drawn 0) lines (frontier_n
 
 module _ (s : Rows) (lower lines links points directory : List ℕ) where
   -- by the answer that the trial leads to
-  unfoldable pub settled : Built → Outcome
-  settled (built-is.Refused why) = refused_by s (lines_restored s.dx s.drawn s.count links (lines_tried s lower lines)) links points directory why
-  settled (built-is.Rings n) = taken s lower (lines_tried s lower lines) links points directory (tried s lower lines).trial.peak n
+  unfoldable pub settled : Result ℕ Refusal → Outcome
+  settled (Err why) = refused_by s (lines_restored s.dx s.drawn s.count links (lines_tried s lower lines)) links points directory why
+  settled (Ok n) = taken s lower (lines_tried s lower lines) links points directory (tried s lower lines).trial.peak n
 
   unfoldable pub advanced : Outcome
   advanced =
@@ -155,9 +153,9 @@ row_called s values lines links points directory =
     (advanced s (row_words s.level values s.dx) lines links points directory))
 
 -- the words that the calls have used are 0 again where the end is taken
-unfoldable pub zeroed_by : Outcome → Built → Outcome
-zeroed_by o (built-is.Refused why) = o
-zeroed_by o (built-is.Rings n) = record {
+unfoldable pub zeroed_by : Outcome → Result ℕ Refusal → Outcome
+zeroed_by o (Err why) = o
+zeroed_by o (Ok n) = record {
   state = o.state;
   answer = o.answer;
   lines = cleared o.lines (open_words o.state.dx o.state.peak);

@@ -1,13 +1,12 @@
 -- Document 02, request 1, as definitions: what a call that draws row r of cells needs and gives out, by document 01's drawing; and the calls one after the other,
 -- where each finds its state as the last call left it, and its work tables no shorter and with the words that call left. Assumes nothing.
-use Rattle.std.specs.Prelude.{◌≡◌, cond, List, [], ◌∷◌, ◌++◌, ℕ, zero, suc, ◌+◌, ◌-◌, ◌*◌, max, ltb, Float, length, take, drop}
+use Rattle.std.specs.Prelude.{◌≡◌, cond, List, [], ◌∷◌, ◌++◌, ℕ, zero, suc, ◌+◌, ◌-◌, ◌*◌, max, ltb, Float, length, take, drop, Ok}
 use Rattle.error.specs.declared.Refusal.TheVariants.{OpenShort, LinksShort, PointsShort, DirectoryShort}
 use Rattle.scope.specs.Terrain.{Sheet}
 use Rattle.scope.specs.Stitching.{Line}
 use Rattle.scope.specs.Drawing.{along, open_after, rings_after}
 use Rattle.scope.specs.Room.{open_words, link_words, directory_words}
 use Rattle.scope.specs.declared.Level.{Level}
-use Rattle.isoringbuilder.specs.declared.Built.TheVariants as built-is
 use Rattle.isoringbuilder.specs.Verdict.{Verdict, refused, passes}
 use Rattle.rows.specs.Called.{begun_state, row_called}
 use Rattle.rows.specs.declared.Rows.{Rows}
@@ -66,7 +65,7 @@ pub data Taken (values : List Float) (level : Level) (dx dy : ℕ) : ℕ → Row
   none : (lines links : List ℕ) → Taken values level dx dy 0 (begun_state level dx dy) lines links
   one_more : (r : ℕ) (s : Rows) (lines links more more' points directory : List ℕ) (n : ℕ)
       → Taken values level dx dy r s lines links
-      → (row_called s (values_of_row values dx r) (lines ++ more) (links ++ more') points directory).answer ≡ built-is.Rings n
+      → (row_called s (values_of_row values dx r) (lines ++ more) (links ++ more') points directory).answer ≡ Ok n
       → Taken values level dx dy (suc r)
       (row_called s (values_of_row values dx r) (lines ++ more) (links ++ more') points directory).state
       (row_called s (values_of_row values dx r) (lines ++ more) (links ++ more') points directory).lines

@@ -39,7 +39,7 @@ pub struct Rows {
 #[derive(Clone, Copy)]
 pub struct Step {
     pub state: Rows,
-    pub answer: Built,
+    pub answer: Result<u32, Refusal>,
 }
 
 // Whether both sides are within the limit.
@@ -73,11 +73,11 @@ pub fn begin(level: Level, dx: usize, dy: usize) -> Step
 {
     if sides_fit(dx, dy) {
         let state = blank(level, dx as u32, dy as u32);
-        let answer = Built::Rings(0);
+        let answer = Ok(0);
         return Step { state, answer };
     }
     let state = blank(level, 0, 0);
-    let answer = Built::Refused(Refusal::BadSide);
+    let answer = Err(Refusal::BadSide);
     Step { state, answer }
 }
 
@@ -123,23 +123,23 @@ fn answer_of(
     links: usize,
     points: usize,
     records: usize,
-) -> Built
+) -> Result<u32, Refusal>
     requires { dx ≤ side_limit }
     ensures { result ≡ answer_by dx lines links points records trial }
 {
     if lines < open_words(dx, trial.peak) {
-        return Built::Refused(Refusal::OpenShort);
+        return Err(Refusal::OpenShort);
     }
     if links < link_words(trial.most) {
-        return Built::Refused(Refusal::LinksShort);
+        return Err(Refusal::LinksShort);
     }
     if points < 2 * (trial.points as usize) {
-        return Built::Refused(Refusal::PointsShort);
+        return Err(Refusal::PointsShort);
     }
     if records < trial.rings as usize {
-        return Built::Refused(Refusal::DirectoryShort);
+        return Err(Refusal::DirectoryShort);
     }
-    Built::Rings(trial.rings)
+    Ok(trial.rings)
 }
 
 // The frontier behind a trial that was refused: noted anew, but for the first row, which was not tried over it.
@@ -210,7 +210,7 @@ fn draw(
         held: play.held,
         above: *lower,
     };
-    let answer = Built::Rings(rings);
+    let answer = Ok(rings);
     Step {
         state: next,
         answer,
@@ -233,13 +233,13 @@ fn advance(
     let dx = state.dx;
     let room = lines.len();
     if room < open_words(dx as usize, state.count) {
-        let answer = Built::Refused(Refusal::OpenShort);
+        let answer = Err(Refusal::OpenShort);
         return Step { state, answer };
     }
     let trial = trial_of(state, lower, lines);
     let records = directory.len() / RECORD_STRIDE;
     let answer = answer_of(trial, dx as usize, room, links.len(), points.len(), records);
-    let Built::Rings(rings) = answer else {
+    let Ok(rings) = answer else {
         restore(lines, links, dx, state.drawn, state.count);
         return Step { state, answer };
     };
@@ -261,11 +261,11 @@ pub fn row(
         ≡ row_called state values.now lines.old links.old points.old directory.old }
 {
     if values.len() != state.dx as usize {
-        let answer = Built::Refused(Refusal::BadRow);
+        let answer = Err(Refusal::BadRow);
         return Step { state, answer };
     }
     if !sides_fit(state.dx as usize, state.dy as usize) | (state.dy <= state.drawn) {
-        let answer = Built::Refused(Refusal::BadTurn);
+        let answer = Err(Refusal::BadTurn);
         return Step { state, answer };
     }
     let mut lower = [0u64; ROW_WORDS];
@@ -286,13 +286,13 @@ pub fn end(
         ≡ end_called state lines.old links.old points.old directory.old }
 {
     if !sides_fit(state.dx as usize, state.dy as usize) | (state.drawn != state.dy) {
-        let answer = Built::Refused(Refusal::BadTurn);
+        let answer = Err(Refusal::BadTurn);
         return Step { state, answer };
     }
     let lower = [0u64; ROW_WORDS];
     let step = advance(state, &lower, lines, links, points, directory);
     let answer = step.answer;
-    if let Built::Rings(_) = answer {
+    if let Ok(_) = answer {
         clear(lines, open_words(step.state.dx as usize, step.state.peak));
         clear(links, link_words(step.state.fresh));
     }

@@ -17,12 +17,12 @@ use Rattle.scope.specs.declared.Level.{Level}
 use Rattle.grid.specs.Grid.{bad_side}
 use Rattle.scan.specs.Rows.{word_from}
 use Rattle.scan.proofs.Samples.{terrain-outside}
-use Rattle.isoringbuilder.specs.declared.Built.{Built}
-use Rattle.isoringbuilder.specs.declared.Built.TheVariants as built-is
 use Rattle.rows.specs.Called.{Outcome, words_from, row_words, no_words, blank, begun_state, tried, answer_by, refused_by, state_after, taken, settled, advanced, row_called, zeroed_by, end_called}
 use Rattle.rows.specs.declared.Rows.{Rows}
 use Rattle.rowstate.specs.Words.{state_in, state_out}
 use Rattle.rowstate.proofs.ReadBack.{read_back}
+use Rattle.std.specs.Prelude.{Result, Ok, Err}
+use Rattle.error.specs.declared.Refusal.{Refusal}
 
 -- 65 words of samples, and none past the columns
 pub record Bounded (dx : ℕ) (above : List ℕ) : Type 0 where
@@ -70,10 +70,10 @@ abbrev pub Leads : Level → Outcome → Type 0
 Leads level o = Stored level o.state
 
 module _ {level : Level} (s : Rows) (stored : Stored level s) (lines links points directory : List ℕ) where
-  settled-leads : (lower : List ℕ) → Bounded s.dx lower → (answer : Built) → Leads level (settled s lower lines links points directory answer)
+  settled-leads : (lower : List ℕ) → Bounded s.dx lower → (answer : Result ℕ Refusal) → Leads level (settled s lower lines links points directory answer)
   unfolding settled refused_by taken state_after
-  settled-leads lower bounded (built-is.Refused why) = stored
-  settled-leads lower bounded (built-is.Rings n) = (bounded, stored.1)
+  settled-leads lower bounded (Err why) = stored
+  settled-leads lower bounded (Ok n) = (bounded, stored.1)
 
   advanced-leads : (lower : List ℕ) → Bounded s.dx lower → Leads level (advanced s lower lines links points directory)
   unfolding advanced refused_by
@@ -94,10 +94,10 @@ module _ {level : Level} (s : Rows) (stored : Stored level s) (lines links point
       stored
       (either (Leads level) late turned drawn stored (advanced-leads lower (row-bounded s.level values s.dx)))
 
-  zeroed-leads : (o : Outcome) (answer : Built) → Leads level o → Leads level (zeroed_by o answer)
+  zeroed-leads : (o : Outcome) (answer : Result ℕ Refusal) → Leads level o → Leads level (zeroed_by o answer)
   unfolding zeroed_by
-  zeroed-leads o (built-is.Refused why) leads = leads
-  zeroed-leads o (built-is.Rings n) leads = leads
+  zeroed-leads o (Err why) leads = leads
+  zeroed-leads o (Ok n) leads = leads
 
   pub end-leads : Leads level (end_called s lines links points directory)
   unfolding end_called refused_by

@@ -14,7 +14,7 @@ ghost use Rattle.scan.specs.Report.{first_report};
 
 use cells::change_of;
 use error::Refusal;
-use grid::{GridFit, grid_fit};
+use grid::grid_fit;
 use limits::SIDE_LIMIT;
 use scope::Level;
 use words::{Pane, SAMPLES, bit_at, changes_in, number_in, pane_of, tally_of, whole_word, word_of};
@@ -214,29 +214,27 @@ pub fn scan(values: &[f64], level: Level, dx: usize, dy: usize, marks: &mut [u8;
     counts
 }
 
-// What the first report answers.
+// What the first report says of a grid: the segments drawn and the peak of open lines, from which the room of the open table and of the link table follows.
 #[derive(Clone, Copy)]
-pub enum FirstReport {
-    // the segments drawn and the peak of open lines, from which the room of the open table and of the link table follows
-    Room { segments: u32, peak: u32 },
-    // the grid does not fit
-    Refused(Refusal),
+pub struct FirstReport {
+    pub segments: u32,
+    pub peak: u32,
 }
 
 // The segments that a grid draws at a level and the peak of its open lines, or the lowest refusal that applies, alone.
-pub fn first_report(values: &[f64], level: Level, dx: usize, dy: usize) -> FirstReport
+pub fn first_report(
+    values: &[f64],
+    level: Level,
+    dx: usize,
+    dy: usize,
+) -> Result<FirstReport, Refusal>
     ensures { result ≡ first_report values.now level dx dy }
 {
-    let fit = grid_fit(values.len(), dx, dy);
-    match fit {
-        GridFit::Refused(refusal) => FirstReport::Refused(refusal),
-        GridFit::Fits => {
-            let mut marks = [0u8; TILES];
-            let counts = scan(values, level, dx, dy, &mut marks);
-            FirstReport::Room {
-                segments: counts.segments,
-                peak: counts.peak,
-            }
-        }
-    }
+    grid_fit(values.len(), dx, dy)?;
+    let mut marks = [0u8; TILES];
+    let counts = scan(values, level, dx, dy, &mut marks);
+    Ok(FirstReport {
+        segments: counts.segments,
+        peak: counts.peak,
+    })
 }

@@ -26,7 +26,7 @@ fn vertex_word(decision: Decision) -> u32
 
 // The fate of ring `ring`: its class and its owner as a record has them, and the vertex that decided it for its owner.
 pub fn tell_fate(
-    fate: RingFate,
+    fate: Result<RingFate, Refusal>,
     ring: u32,
     ring_class: &mut u32,
     owner: &mut u32,
@@ -56,18 +56,18 @@ pub fn tell_fate(
             *vertex = NO_VERTEX;
             0
         }
-        RingFate::Refused(refusal) => error::number(refusal),
+        Err(refusal) => error::number(refusal),
     }
 }
 
 // The answer of a polygon, -1, 0 or 1, and the vertex that decides.
-pub fn tell_answer(answered: PolygonAnswer, answer: &mut i32, vertex: &mut u32) -> u32
+pub fn tell_answer(answered: Result<Decision, Refusal>, answer: &mut i32, vertex: &mut u32) -> u32
     ensures value { result ≡ answer_status answered }
     ensures answer_after { answer.new ≡ answer_output answer.old answered }
     ensures vertex_after { vertex.new ≡ answer_vertex vertex.old answered }
 {
     match answered {
-        PolygonAnswer::Decided(decision) => {
+        Ok(decision) => {
             *vertex = vertex_word(decision);
             match decision {
                 Decision::Inside(_) => {
@@ -84,7 +84,7 @@ pub fn tell_answer(answered: PolygonAnswer, answer: &mut i32, vertex: &mut u32) 
                 }
             }
         }
-        PolygonAnswer::Refused(refusal) => error::number(refusal),
+        Err(refusal) => error::number(refusal),
     }
 }
 
@@ -105,7 +105,7 @@ fn tell_coordinate(coordinate: Coordinate, kind: &mut u32, fraction: &mut f64)
 
 // What smoothing does to a vertex.
 pub fn tell_vertex(
-    answered: VertexAnswer,
+    answered: Result<VertexMoves, Refusal>,
     x_kind: &mut u32,
     x_fraction: &mut f64,
     y_kind: &mut u32,
@@ -118,13 +118,13 @@ pub fn tell_vertex(
     ensures y_fraction_after { y_fraction.new ≡ y_fraction_of y_fraction.old answered }
 {
     match answered {
-        VertexAnswer::Moves(moves) => {
+        Ok(moves) => {
             let x = moves.x;
             let y = moves.y;
             tell_coordinate(x, x_kind, x_fraction);
             tell_coordinate(y, y_kind, y_fraction);
             0
         }
-        VertexAnswer::Refused(refusal) => error::number(refusal),
+        Err(refusal) => error::number(refusal),
     }
 }

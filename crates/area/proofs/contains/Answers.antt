@@ -8,6 +8,7 @@ use lib.Dec.{eqb}
 use lib.ListN.{length}
 use Rattle.scope.specs.Area.{area_refused, faulty_words}
 use Rattle.scope.specs.Containment.{contains_refused, signed}
+use Rattle.std.specs.Prelude.{Ok}
 use Rattle.area.specs.Answers.{contains_answer, place_of}
 use Rattle.area.proofs.Walks.{Passed, Walked, passed-begin, passed-next, decided, none-decided, walked-begin, walked-held, walked_next, walked_end}
 use Rattle.area.proofs.Words.{sound, ring-sound, last_point, point_at}
@@ -28,7 +29,7 @@ not-refused outer tested r f er r₀ ef f₀ = simp (refused-first, ← er, r₀
 sign-decides : (outer tested : List ℕ) (v k : ℕ) (ax ay : ℕ) (within inside : Bool) →
     contains_refused outer tested ≡ false → Passed outer tested v → v < length tested →
     Walked outer (point_at tested v) ax ay within k → length outer ≤ k → within ≡ inside →
-    contains_answer outer tested ≡ place_of (signed inside)
+    contains_answer outer tested ≡ Ok (place_of (signed inside))
 unfolding contains_answer
 sign-decides outer tested v k ax ay within inside none passed turn walked end e =
     let place = decided passed turn inside (walked_end walked end ∙ ap signed e) in

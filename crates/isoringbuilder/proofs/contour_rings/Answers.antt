@@ -3,21 +3,23 @@
 use native.Mathlib.Omega.{arith}
 use Rattle.isoringbuilder.proofs.Limits.{columns-fit}
 use Rattle.isoringbuilder.proofs.Laws.{done-facts, rings-refused, built-done}
+use Rattle.error.proofs.Passing.{passed-on}
 use Rattle.isoringbuilder.proofs.contour_rings.Goals as goal
 
 pub overflow_cast-dx : goal.overflow_cast-dx
 overflow_cast-dx c =
-    let facts = done-facts _ _ _ _ _ _ _ _ c.in-Done.is _ _ c.run_pass.ensures in
+    let facts = done-facts _ _ _ _ _ _ _ _ c.in_ok-drawing.was _ _ c.run_pass.ensures in
     omega (arith, columns-fit c.args.values.now c.args.level _ _ facts.sized)
 
 pub open_words-requires : goal.open_words-requires
-open_words-requires c = (done-facts _ _ _ _ _ _ _ _ c.in-Done.is _ _ c.run_pass.ensures).sized.columns
+open_words-requires c = (done-facts _ _ _ _ _ _ _ _ c.in_ok-drawing.was _ _ c.run_pass.ensures).sized.columns
 
-pub returns-in-Refused : goal.returns-in-Refused
-returns-in-Refused c = rings-refused _ _ _ _ _ _ _ c.in-Refused.refusal c.in-Refused.is _ _ c.run_pass.ensures _ _
+pub returns-in_err-drawing : goal.returns-in_err-drawing
+returns-in_err-drawing c =
+    rw (passed-on _ c.from_residual.ensures.1) (rings-refused _ _ _ _ _ _ _ _ c.in_err-drawing.was _ _ c.run_pass.ensures _ _)
 
-pub returns-in-Done : goal.returns-in-Done
-returns-in-Done c =
-    let facts = done-facts _ _ _ _ _ _ _ _ c.in-Done.is _ _ c.run_pass.ensures in
-    rw (c.clear.ensures, c.open_words.ensures, c.clear-in-Done.ensures, c.link_words.ensures)
+pub returns : goal.returns
+returns c =
+    let facts = done-facts _ _ _ _ _ _ _ _ c.in_ok-drawing.was _ _ c.run_pass.ensures in
+    rw (c.clear.ensures, c.open_words.ensures, c.clear-2.ensures, c.link_words.ensures)
     (built-done _ _ _ _ _ _ _ _ _ facts _ _ _ _ _ c.pack_whole-answer.ensures)

@@ -1,14 +1,16 @@
 -- `isoringbuilder::pack` meets its contract: the answer says whether the outputs are spared or the walk along the links stores them. Assumes nothing.
 use Rattle.scope.specs.Limits.{record_stride}
 use Rattle.isoringbuilder.proofs.Packing.{short_records, spared, stored, as-packed}
+use Rattle.error.proofs.Passing.{passed-on}
 use Rattle.isoringbuilder.proofs.pack.Goals as goal
 
-pub returns-in_default : goal.returns-in_default
+pub returns-in_err-count : goal.returns-in_err-count
 unfolding record_stride
-returns-in_default c = as-packed (spared _ short_records _ _ _ _ _ c.answer_for-answer.ensures _ c.in_default.is)
+returns-in_err-count c =
+    rw (passed-on _ c.from_residual.ensures.1, ← c.in_err-count.was) (as-packed (spared _ short_records _ _ _ _ _ c.answer_for.ensures _ c.in_err-count.was))
 
 pub returns : goal.returns
 unfolding record_stride
 returns c =
     let walked = c.write_rings.ensures in
-    rw (walked.points_after, walked.directory_after) (as-packed (stored _ short_records _ _ _ _ _ c.answer_for-answer.ensures _ c.in-Rings.is))
+    rw (walked.points_after, walked.directory_after, ← c.in_ok-count.was) (as-packed (stored _ short_records _ _ _ _ _ c.answer_for.ensures _ c.in_ok-count.was))

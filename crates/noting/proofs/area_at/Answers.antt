@@ -35,6 +35,6 @@ returns-in_default c =
 
 pub returns : goal.returns
 returns c =
-    let found = area-answered _ _ (accepted _ _ _ c.requires) c.area.ensures _ c.in-Area.is in
-    let same : to_z w64 (of_z w64 c.in-Area.area) ≡ c.in-Area.area = search rules in
+    let found = area-answered _ _ (accepted _ _ _ c.requires) c.area.ensures _ c.in-Ok.is in
+    let same : to_z w64 (of_z w64 c.in-Ok.area) ≡ c.in-Ok.area = search rules in
     same ∙ found ∙ ap area (its-points _ _ _ c.requires)

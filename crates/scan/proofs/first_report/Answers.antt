@@ -1,18 +1,19 @@
--- `scan::first_report` meets its contract. Each arm is given which answer `grid_fit` returned, which its contract says is the definition's;
--- a grid that fits can be scanned. Assumes nothing.
+-- `scan::first_report` meets its contract: `grid_fit` answers what its definition says, and a grid that fits can be scanned. Assumes nothing.
 use mathlib.Core.Path.{refl, sym, ◌∙◌}
+use Rattle.error.proofs.Passing.{passed-on}
 use Rattle.scan.specs.Scanned.{scanned}
 use Rattle.scan.specs.Report.{room_of, report_for, first_report}
 use Rattle.grid.proofs.Laws.{a-grid-that-fits-is-sized}
 use Rattle.scan.proofs.first_report.Goals as goal
 
 pub scan-counts-requires : goal.scan-counts-requires
-scan-counts-requires c = record { sized = a-grid-that-fits-is-sized _ _ _ (sym c.grid_fit-fit.ensures ∙ c.in-Fits.is); marks_len = refl }
+scan-counts-requires c = record { sized = a-grid-that-fits-is-sized _ _ _ (sym c.grid_fit.ensures ∙ c.in_ok-grid_fit.was); marks_len = refl }
 
-pub returns-in-Refused : goal.returns-in-Refused
+pub returns-in_err-grid_fit : goal.returns-in_err-grid_fit
 unfolding first_report report_for
-returns-in-Refused c = rw (sym c.grid_fit-fit.ensures ∙ c.in-Refused.is)
+returns-in_err-grid_fit c =
+    rw (passed-on _ c.from_residual.ensures.1, sym c.grid_fit.ensures ∙ c.in_err-grid_fit.was)
 
-pub returns-in-Fits : goal.returns-in-Fits
+pub returns : goal.returns
 unfolding first_report report_for room_of scanned
-returns-in-Fits c = rw (sym c.grid_fit-fit.ensures ∙ c.in-Fits.is, c.scan-counts.ensures.value)
+returns c = rw (sym c.grid_fit.ensures ∙ c.in_ok-grid_fit.was, c.scan-counts.ensures.value)
