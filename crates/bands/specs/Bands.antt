@@ -60,8 +60,8 @@ unfoldable pub band_outputs : Sheet → Sheet → ℕ → ℕ → ℕ → ℕ �
 band_outputs L U dx dy points directory = band_room (segment_count L dx dy) (ring_count L dx dy) (segment_count U dx dy) (ring_count U dx dy) points directory
 
 -- the first report: the larger S and the larger H
-unfoldable pub band_room_of : Sheet → Sheet → ℕ → ℕ → Result FirstReport Refusal
-band_room_of L U dx dy = Ok (record { segments = max (segment_count L dx dy) (segment_count U dx dy); peak = max (peak L dx dy) (peak U dx dy) })
+unfoldable pub band_room_of : Sheet → Sheet → ℕ → ℕ → FirstReport
+band_room_of L U dx dy = record { segments = max (segment_count L dx dy) (segment_count U dx dy); peak = max (peak L dx dy) (peak U dx dy) }
 
 unfoldable pub band_first_report : List Float → List Float → Rule → ℕ → ℕ → ℕ → Result FirstReport Refusal
 band_first_report values thresholds rule k dx dy =
@@ -71,8 +71,12 @@ band_first_report values thresholds rule k dx dy =
 unfoldable pub band_reported : Verdict → Sheet → Sheet → ℕ → ℕ → Result SecondReport Refusal
 band_reported (refused why) L U dx dy = Err why
 band_reported passes L U dx dy =
-    ??second_is.Room (max (segment_count L dx dy) (segment_count U dx dy)) (ring_count L dx dy + ring_count U dx dy) (max (peak L dx dy) (peak U dx dy))
-    (point_count (segment_count L dx dy) (ring_count L dx dy) + point_count (segment_count U dx dy) (ring_count U dx dy))
+    Ok (record {
+      segments = max (segment_count L dx dy) (segment_count U dx dy);
+      rings = ring_count L dx dy + ring_count U dx dy;
+      peak = max (peak L dx dy) (peak U dx dy);
+      points = point_count (segment_count L dx dy) (ring_count L dx dy) + point_count (segment_count U dx dy) (ring_count U dx dy);
+    })
 
 -- the number of rings
 unfoldable pub band_built : Verdict → Verdict → Sheet → Sheet → ℕ → ℕ → Result ℕ Refusal

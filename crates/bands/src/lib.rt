@@ -12,19 +12,19 @@ ghost use Rattle.bands.specs.Bands.{band_fit, fit_pair, band_room_of, band_first
 ghost use Rattle.bands.specs.Passing.{BandPassed, stored_from, BandPacked};
 
 use error::Refusal;
-use grid::{GridFit, grid_fit};
-use isoringbuilder::{Built, SecondReport, link_words, open_words, point_words};
+use grid::grid_fit;
+use isoringbuilder::{SecondReport, link_words, open_words, point_words};
 use limits::{RECORD_STRIDE, SHORT_STRIDE};
 use packing::{clear, write_rings};
 use scan::{Counts, FirstReport, TILES, scan};
 use scope::{Level, Rule};
 use stitching::stitch;
 
-// Whether a band can be drawn: between which levels, or the refusal.
+// The levels that a band lies between.
 #[derive(Clone, Copy)]
-pub enum BandFit {
-    Fits(Level, Level),
-    Refused(Refusal),
+pub struct BandLevels {
+    pub lower: Level,
+    pub upper: Level,
 }
 
 // What a band's stitching passes leave to be written: the counts of both sets, the larger peak, and the first link of the upper set's first ring.
@@ -36,13 +36,6 @@ pub struct BandDrawing {
     pub upper_rings: u32,
     pub peak: u32,
     pub head: u32,
-}
-
-// A band's stitching passes that were done, or the refusal before them.
-#[derive(Clone, Copy)]
-pub enum BandPass {
-    Done(BandDrawing),
-    Refused(Refusal),
 }
 
 // Whether k + 1 is a place among so many thresholds.
@@ -59,18 +52,14 @@ fn has_pair(thresholds: usize, k: usize) -> bool
 fn band_fit(count: usize, dx: usize, dy: usize, thresholds: usize, k: usize) -> Result<(), Refusal>
     ensures { result ≡ band_fit count dx dy thresholds k }
 {
-    match grid_fit(count, dx, dy) {
-        Err(refusal) => Err(refusal),
-        Ok(()) => {
-            if thresholds < 2 {
-                return Err(Refusal::FewThresholds);
-            }
-            if has_pair(thresholds, k) {
-                return Ok(());
-            }
-            Err(Refusal::NoPair)
-        }
+    grid_fit(count, dx, dy)?;
+    if thresholds < 2 {
+        return Err(Refusal::FewThresholds);
     }
+    if has_pair(thresholds, k) {
+        return Ok(());
+    }
+    Err(Refusal::NoPair)
 }
 
 // The levels of the thresholds k and k + 1 under a rule, where a band can be drawn. Else the lowest refusal that applies.
@@ -84,32 +73,21 @@ pub fn band_pair(
 ) -> Result<BandLevels, Refusal>
     ensures { result ≡ fit_pair (band_fit count dx dy (length thresholds.now) k) thresholds.now rule k }
 {
-    match band_fit(count, dx, dy, thresholds.len(), k) {
-        Err(refusal) => Err(refusal),
-        Ok(()) => {
-            let below = Level {
-                threshold: thresholds[k],
-                rule,
-            };
-            let above = Level {
-                threshold: thresholds[k + 1],
-                rule,
-            };
-            BandFit::Fits(below, above)
-        }
-    }
-}
-
-// The larger of two counts.
-pub fn larger(a: u32, b: u32) -> u32
-    ensures { result ≡ max a b }
-{
-    if a < b { b } else { a }
+    band_fit(count, dx, dy, thresholds.len(), k)?;
+    let lower = Level {
+        threshold: thresholds[k],
+        rule,
+    };
+    let upper = Level {
+        threshold: thresholds[k + 1],
+        rule,
+    };
+    Ok(BandLevels { lower, upper })
 }
 
 // The counts of a grid that fits at one level.
 fn counts_of(values: &[f64], level: Level, dx: usize, dy: usize) -> Counts
-    requires { grid_fit (length values.now) dx dy ≡ GridFit.Fits }
+    requires { grid_fit (length values.now) dx dy ≡ Ok tt }
     ensures { result ≡ scanned (terrain (above_at level) values.now dx dy) dx dy }
 {
     let mut marks = [0u8; TILES];
@@ -117,15 +95,16 @@ fn counts_of(values: &[f64], level: Level, dx: usize, dy: usize) -> Counts
 }
 
 // The larger segment count and the larger peak of two levels, for a grid that fits.
-fn room_of(values: &[f64], lower: Level, upper: Level, dx: usize, dy: usize) -> Result<FirstReport, Refusal>
-    requires { grid_fit (length values.now) dx dy ≡ GridFit.Fits }
+fn room_of(values: &[f64], lower: Level, upper: Level, dx: usize, dy: usize) -> FirstReport
+    requires { grid_fit (length values.now) dx dy ≡ Ok tt }
     ensures { result ≡ band_room_of (terrain (above_at lower) values.now dx dy) (terrain (above_at upper) values.now dx dy) dx dy }
 {
     let below = counts_of(values, lower, dx, dy);
     let above = counts_of(values, upper, dx, dy);
-    let segments = larger(below.segments, above.segments);
-    let peak = larger(below.peak, above.peak);
-    FirstReport::Room { segments, peak }
+    FirstReport {
+        segments: below.segments.max(above.segments),
+        peak: below.peak.max(above.peak),
+    }
 }
 
 // The larger segment count and the larger peak of the thresholds k and k + 1 of a list under a rule, or the lowest refusal that applies, alone.
@@ -139,10 +118,8 @@ pub fn band_first_report(
 ) -> Result<FirstReport, Refusal>
     ensures { result ≡ band_first_report values.now thresholds.now rule k dx dy }
 {
-    match band_pair(values.len(), dx, dy, thresholds, rule, k) {
-        Err(refusal) => Err(refusal),
-        BandFit::Fits(lower, upper) => room_of(values, lower, upper, dx, dy),
-    }
+    let levels = band_pair(values.len(), dx, dy, thresholds, rule, k)?;
+    Ok(room_of(values, levels.lower, levels.upper, dx, dy))
 }
 
 // The stitching passes of a band over a grid that fits, the lower set and then the upper: both work tables are tested for the larger need, and nothing is
@@ -157,7 +134,7 @@ pub fn band_pass(
     lines: &mut [u32],
     links: &mut [u32],
 ) -> Result<BandDrawing, Refusal>
-    requires { (grid_fit (length values.now) dx dy ≡ GridFit.Fits) × (length marks.old ≡ 4096) }
+    requires { (grid_fit (length values.now) dx dy ≡ Ok tt) × (length marks.old ≡ 4096) }
     ensures { BandPassed values.now lower upper dx dy lines.old links.old result
         lines.new links.new marks.new }
 {
@@ -166,11 +143,11 @@ pub fn band_pass(
     let above = scan(values, upper, dx, dy, &mut upper_marks);
     let lower_segments = below.segments;
     let upper_segments = above.segments;
-    let peak = larger(below.peak, above.peak);
+    let peak = below.peak.max(above.peak);
     if lines.len() < open_words(dx, peak) {
         return Err(Refusal::OpenShort);
     }
-    if links.len() < link_words(larger(lower_segments, upper_segments)) {
+    if links.len() < link_words(lower_segments.max(upper_segments)) {
         return Err(Refusal::LinksShort);
     }
     let first = stitch(values, lower, dx, dy, marks, lines, links);
@@ -198,28 +175,24 @@ fn report_over(
     lines: &mut [u32],
     links: &mut [u32],
 ) -> Result<SecondReport, Refusal>
-    requires { grid_fit (length values.now) dx dy ≡ GridFit.Fits }
-    ensures { ReportedOver GridFit.Fits (terrain (above_at lower) values.now dx dy) (terrain (above_at upper) values.now dx dy) dx dy
+    requires { grid_fit (length values.now) dx dy ≡ Ok tt }
+    ensures { ReportedOver (Ok tt) (terrain (above_at lower) values.now dx dy) (terrain (above_at upper) values.now dx dy) dx dy
         lines.old links.old result lines.new links.new }
 {
     let mut marks = [0u8; TILES];
-    match band_pass(values, lower, upper, dx, dy, &mut marks, lines, links) {
-        Err(refusal) => Err(refusal),
-        Ok(drawing) => {
-            let peak = drawing.peak;
-            let segments = larger(drawing.lower_segments, drawing.upper_segments);
-            let rings = drawing.lower_rings + drawing.upper_rings;
-            let points = drawing.lower_segments + drawing.upper_segments + rings;
-            clear(lines, open_words(dx, peak));
-            clear(links, link_words(segments));
-            SecondReport::Room {
-                segments,
-                rings,
-                peak,
-                points,
-            }
-        }
-    }
+    let drawing = band_pass(values, lower, upper, dx, dy, &mut marks, lines, links)?;
+    let peak = drawing.peak;
+    let segments = drawing.lower_segments.max(drawing.upper_segments);
+    let rings = drawing.lower_rings + drawing.upper_rings;
+    let points = drawing.lower_segments + drawing.upper_segments + rings;
+    clear(lines, open_words(dx, peak));
+    clear(links, link_words(segments));
+    Ok(SecondReport {
+        segments,
+        rings,
+        peak,
+        points,
+    })
 }
 
 // All room for the band of the thresholds k and k + 1 of a list under a rule: the larger segment count and peak, and the sums of rings and points. On success
@@ -236,10 +209,8 @@ pub fn band_second_report(
 ) -> Result<SecondReport, Refusal>
     ensures { BandReported values.now thresholds.now rule k dx dy lines.old links.old result lines.new links.new }
 {
-    match band_pair(values.len(), dx, dy, thresholds, rule, k) {
-        Err(refusal) => Err(refusal),
-        BandFit::Fits(lower, upper) => report_over(values, lower, upper, dx, dy, lines, links),
-    }
+    let levels = band_pair(values.len(), dx, dy, thresholds, rule, k)?;
+    report_over(values, levels.lower, levels.upper, dx, dy, lines, links)
 }
 
 // The words that the points of both sets need: the sum of the two.

@@ -8,12 +8,12 @@ use Rattle.scan.specs.declared.FirstReport.{FirstReport}
 use Rattle.error.specs.declared.Refusal.{Refusal}
 
 -- S and H of a sheet
-unfoldable pub room_of : Sheet → ℕ → ℕ → Result FirstReport Refusal
-room_of A dx dy = Ok (record { segments = segment_count A dx dy; peak = peak A dx dy })
+unfoldable pub room_of : Sheet → ℕ → ℕ → FirstReport
+room_of A dx dy = record { segments = segment_count A dx dy; peak = peak A dx dy }
 
 -- a grid that fits is reported, another refused
-unfoldable pub report_for : Result (Unit {0}) Refusal → Result FirstReport Refusal → Result FirstReport Refusal
-report_for (Ok tt) room = room
+unfoldable pub report_for : Result (Unit {0}) Refusal → FirstReport → Result FirstReport Refusal
+report_for (Ok tt) room = Ok room
 report_for (Err refusal) room = Err refusal
 
 unfoldable pub first_report : List Float → Level → ℕ → ℕ → Result FirstReport Refusal

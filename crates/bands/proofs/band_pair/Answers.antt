@@ -4,33 +4,34 @@ use Prim.Native.Nat.{suc, ◌+◌}
 use native.Mathlib.Omega.{arith}
 use Rattle.bands.specs.Bands.{fit_pair}
 use Rattle.bands.proofs.Fit.{fitting}
+use Rattle.error.proofs.Passing.{passed-on}
 use Rattle.bands.proofs.band_pair.Goals as goal
 
 pub offset_bounds-thresholds-k : goal.offset_bounds-thresholds-k
-offset_bounds-thresholds-k c = omega (arith, (fitting _ _ _ _ _ (sym c.band_fit.ensures ∙ c.in-Fits.is)).place)
+offset_bounds-thresholds-k c = omega (arith, (fitting _ _ _ _ _ (sym c.band_fit.ensures ∙ c.in_ok-band_fit.was)).place)
 
 pub bounds-thresholds-k : goal.bounds-thresholds-k
 bounds-thresholds-k c =
-    omega (arith, (fitting _ _ _ _ _ (sym c.band_fit.ensures ∙ c.in-Fits.is)).place)
+    omega (arith, (fitting _ _ _ _ _ (sym c.band_fit.ensures ∙ c.in_ok-band_fit.was)).place)
 
-pub overflow_add-above : goal.overflow_add-above
-overflow_add-above c =
-    omega (arith, (fitting _ _ _ _ _ (sym c.band_fit.ensures ∙ c.in-Fits.is)).place)
+pub overflow_add-upper : goal.overflow_add-upper
+overflow_add-upper c =
+    omega (arith, (fitting _ _ _ _ _ (sym c.band_fit.ensures ∙ c.in_ok-band_fit.was)).place)
 
-pub offset_bounds-thresholds-k-in-Fits : goal.offset_bounds-thresholds-k-in-Fits
-offset_bounds-thresholds-k-in-Fits c =
-    omega (arith, (fitting _ _ _ _ _ (sym c.band_fit.ensures ∙ c.in-Fits.is)).place)
+pub offset_bounds-thresholds-k-2 : goal.offset_bounds-thresholds-k-2
+offset_bounds-thresholds-k-2 c =
+    omega (arith, (fitting _ _ _ _ _ (sym c.band_fit.ensures ∙ c.in_ok-band_fit.was)).place)
 
-pub bounds-thresholds-k-in-Fits : goal.bounds-thresholds-k-in-Fits
-bounds-thresholds-k-in-Fits c =
-    omega (arith, (fitting _ _ _ _ _ (sym c.band_fit.ensures ∙ c.in-Fits.is)).place)
+pub bounds-thresholds-k-2 : goal.bounds-thresholds-k-2
+bounds-thresholds-k-2 c =
+    omega (arith, (fitting _ _ _ _ _ (sym c.band_fit.ensures ∙ c.in_ok-band_fit.was)).place)
 
-pub returns-in-Refused : goal.returns-in-Refused
+pub returns-in_err-band_fit : goal.returns-in_err-band_fit
 unfolding fit_pair
-returns-in-Refused c = rw (sym c.band_fit.ensures ∙ c.in-Refused.is)
+returns-in_err-band_fit c = rw (passed-on _ c.from_residual.ensures.1, sym c.band_fit.ensures ∙ c.in_err-band_fit.was)
 
-pub returns-in-Fits : goal.returns-in-Fits
+pub returns : goal.returns
 unfolding fit_pair
-returns-in-Fits c =
+returns c =
     let next : c.args.k + 1 ≡ suc c.args.k = omega arith in
-    rw (sym c.band_fit.ensures ∙ c.in-Fits.is, ← next)
+    rw (sym c.band_fit.ensures ∙ c.in_ok-band_fit.was, ← next)

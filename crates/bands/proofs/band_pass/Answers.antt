@@ -21,13 +21,13 @@ open_words-requires c =
 
 pub returns-then-lines-open_words : goal.returns-then-lines-open_words
 returns-then-lines-open_words c =
-    let need = open-need _ _ _ _ _ c.scan-below.ensures.value c.scan-above.ensures.value c.open_words.ensures c.larger-peak.ensures in
+    let need = open-need _ _ _ _ _ c.scan-below.ensures.value c.scan-above.ensures.value c.open_words.ensures c.max-peak.ensures in
     lines-short _ _ _ _ _ _ _ _ c.scan-below.ensures.marked (omega (arith, need))
 
 pub returns-then-links-link_words : goal.returns-then-links-link_words
 returns-then-links-link_words c =
-    let need = open-need _ _ _ _ _ c.scan-below.ensures.value c.scan-above.ensures.value c.open_words.ensures c.larger-peak.ensures in
-    let most = link-need _ _ _ _ _ c.scan-below.ensures.value c.scan-above.ensures.value c.link_words.ensures c.larger.ensures in
+    let need = open-need _ _ _ _ _ c.scan-below.ensures.value c.scan-above.ensures.value c.open_words.ensures c.max-peak.ensures in
+    let most = link-need _ _ _ _ _ c.scan-below.ensures.value c.scan-above.ensures.value c.link_words.ensures c.max.ensures in
     links-short _ _ _ _ _ _ _ _ c.scan-below.ensures.marked (omega (arith, need, c.if-lines-open_words.false)) (omega (arith, most))
 
 pub stitch-first-requires : goal.stitch-first-requires
@@ -41,9 +41,9 @@ stitch-second-requires c =
 pub returns : goal.returns
 unfolding scanned
 returns c =
-    let need = open-need _ _ _ _ _ c.scan-below.ensures.value c.scan-above.ensures.value c.open_words.ensures c.larger-peak.ensures in
-    let most = link-need _ _ _ _ _ c.scan-below.ensures.value c.scan-above.ensures.value c.link_words.ensures c.larger.ensures in
-    rw (c.larger-peak.ensures, c.scan-below.ensures.value, c.scan-above.ensures.value)
+    let need = open-need _ _ _ _ _ c.scan-below.ensures.value c.scan-above.ensures.value c.open_words.ensures c.max-peak.ensures in
+    let most = link-need _ _ _ _ _ c.scan-below.ensures.value c.scan-above.ensures.value c.link_words.ensures c.max.ensures in
+    rw (c.max-peak.ensures, c.scan-below.ensures.value, c.scan-above.ensures.value)
     (done c.args.values.now c.args.lower c.args.upper c.args.dx c.args.dy c.args.lines.now c.args.links.now _
     c.scan-below.ensures.marked (omega (arith, need, c.if-lines-open_words.false)) (omega (arith, most, c.if-links-link_words.false))
     (a-grid-that-fits-is-sized _ _ _ c.requires.0) _ _ _ _ _ _ c.stitch-first.ensures c.stitch-second.ensures)

@@ -2,17 +2,19 @@
 -- levels. Assumes nothing.
 use Rattle.bands.proofs.Fit.{paired, pair-refused}
 use Rattle.bands.proofs.Reports.{fit_refused}
+use Rattle.error.proofs.Passing.{passed-on}
 use Rattle.bands.proofs.band_second_report.Goals as goal
 
 pub report_over-requires : goal.report_over-requires
 report_over-requires c =
-    (paired _ _ _ c.args.k c.args.thresholds.now c.args.rule _ _ _ c.in-Fits.is c.band_pair.ensures).grid
+    (paired _ _ _ c.args.k c.args.thresholds.now c.args.rule _ _ c.in_ok-levels.was c.band_pair.ensures).grid
 
-pub returns-in-Refused : goal.returns-in-Refused
-returns-in-Refused c =
-    fit_refused _ _ (pair-refused _ _ _ c.args.k c.args.thresholds.now c.args.rule _ _ c.in-Refused.is c.band_pair.ensures) _ _ _ _ _ _
+pub returns-in_err-levels : goal.returns-in_err-levels
+returns-in_err-levels c =
+    rw (passed-on _ c.from_residual.ensures.1)
+    (fit_refused _ _ (pair-refused _ _ _ c.args.k c.args.thresholds.now c.args.rule _ _ c.in_err-levels.was c.band_pair.ensures) _ _ _ _ _ _)
 
-pub returns-in-Fits : goal.returns-in-Fits
-returns-in-Fits c =
-    let facts = paired _ _ _ c.args.k c.args.thresholds.now c.args.rule _ _ _ c.in-Fits.is c.band_pair.ensures in
+pub returns : goal.returns
+returns c =
+    let facts = paired _ _ _ c.args.k c.args.thresholds.now c.args.rule _ _ c.in_ok-levels.was c.band_pair.ensures in
     rw (facts.fits, ← facts.lower-is, ← facts.upper_is) c.report_over.ensures

@@ -6,4 +6,4 @@ use Rattle.bands.proofs.room_of.Goals as goal
 pub returns : goal.returns
 unfolding band_room_of scanned
 returns c =
-    rw (c.larger-peak.ensures, c.larger-segments.ensures, c.counts_of-above.ensures, c.counts_of-below.ensures)
+    rw (c.max.ensures, c.max-2.ensures, c.counts_of-above.ensures, c.counts_of-below.ensures)

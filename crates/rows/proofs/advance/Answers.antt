@@ -24,4 +24,4 @@ returns c =
     c.draw.ensures
     ∙ taken-after c.args.state c.args.lower.now c.args.lines.now c.args.links.now c.args.points.now c.args.directory.now
     (omega (arith, c.open_words.ensures)) _ c.trial_of-trial.ensures.value _ c.trial_of-trial.ensures.lines_after
-    _ c.answer_of-answer.ensures _ c.in-Rings.is
+    _ c.answer_of-answer.ensures _ c.in-Ok.is

@@ -21,10 +21,10 @@ open_words-requires c =
     let stay = ap (λ (o : Outcome). o.state.dx) c.advance-step.ensures ∙ columns-stay c.args.state _ _ _ _ _ in
     omega (arith, stay, (end-within c.args.state.dx c.args.state.dy _ (sym (turn-tested _ _ _ c.sides_fit.ensures _) ∙ c.if-sides_fit-state.false)).0)
 
-pub returns-in-Rings : goal.returns-in-Rings
-returns-in-Rings c =
-    end-zeroes c.args.state _ _ _ _ (sym (turn-tested _ _ _ c.sides_fit.ensures _) ∙ c.if-sides_fit-state.false) _ c.advance-step.ensures _ c.in-Rings.is
-    _ _ (c.clear.ensures ∙ ap (cleared _) c.open_words.ensures) (c.clear-in-Rings.ensures ∙ ap (cleared _) c.link_words.ensures)
+pub returns-in-Ok : goal.returns-in-Ok
+returns-in-Ok c =
+    end-zeroes c.args.state _ _ _ _ (sym (turn-tested _ _ _ c.sides_fit.ensures _) ∙ c.if-sides_fit-state.false) _ c.advance-step.ensures _ c.in-Ok.is
+    _ _ (c.clear.ensures ∙ ap (cleared _) c.open_words.ensures) (c.clear-in-Ok.ensures ∙ ap (cleared _) c.link_words.ensures)
 
 pub returns-in_default : goal.returns-in_default
 returns-in_default c =
