@@ -11,9 +11,9 @@ ghost use Rattle.regions.specs.Regions.{counted_rings, Workable};
 ghost use Rattle.contourbuilder.specs.Contours.{ContoursBuilt};
 ghost use Rattle.contourbuilder.specs.Owning.{records_by, Ownable, OwnersFound};
 
-use bands::{BandFit, BandPass, band_pack, band_pair, band_pass, band_point_words, larger};
-use grid::GridFit;
-use isoringbuilder::{Built, Pass, link_words, open_words, pack, point_words, run_pass};
+use bands::{band_pack, band_pair, band_pass, band_point_words};
+use error::Refusal;
+use isoringbuilder::{link_words, open_words, pack, point_words, run_pass};
 use packing::clear;
 use regions::{own_band, own_contour};
 use scan::TILES;
@@ -76,20 +76,15 @@ pub fn contours(
     ensures { ContoursBuilt values.now level dx dy lines.old links.old points.old directory.old result
         lines.new links.new points.new directory.new }
 {
-    match run_pass(values, level, dx, dy, lines, links) {
-        Err(refusal) => Err(refusal),
-        Ok(drawing) => {
-            let answer = pack(drawing, dx as u32, links, points, directory);
-            let peak = drawing.peak;
-            let segments = drawing.segments;
-            let words = link_words(segments);
-            let filled = point_words(segments, drawing.rings);
-            own_rings(answer, false, words, links, filled, points, directory);
-            clear(lines, open_words(dx, peak));
-            clear(links, words);
-            answer
-        }
-    }
+    let drawing = run_pass(values, level, dx, dy, lines, links)?;
+    let answer = pack(drawing, dx as u32, links, points, directory);
+    let segments = drawing.segments;
+    let words = link_words(segments);
+    let filled = point_words(segments, drawing.rings);
+    own_rings(answer, false, words, links, filled, points, directory);
+    clear(lines, open_words(dx, drawing.peak));
+    clear(links, words);
+    answer
 }
 
 // The band between two levels, for a grid that fits.
@@ -104,27 +99,23 @@ fn band_over(
     points: &mut [u16],
     directory: &mut [u32],
 ) -> Result<u32, Refusal>
-    requires { grid_fit (length values.now) dx dy ≡ GridFit.Fits }
-    ensures { BuiltOver GridFit.Fits (terrain (above_at lower) values.now dx dy) (terrain (above_at upper) values.now dx dy) dx dy
+    requires { grid_fit (length values.now) dx dy ≡ Ok tt }
+    ensures { BuiltOver (Ok tt) (terrain (above_at lower) values.now dx dy) (terrain (above_at upper) values.now dx dy) dx dy
         lines.old links.old points.old directory.old result
         lines.new links.new points.new directory.new }
 {
     let mut marks = [0u8; TILES];
-    match band_pass(values, lower, upper, dx, dy, &mut marks, lines, links) {
-        Err(refusal) => Err(refusal),
-        Ok(drawing) => {
-            let answer = band_pack(
-                drawing, values, lower, dx, dy, &marks, lines, links, points, directory,
-            );
-            let peak = drawing.peak;
-            let words = link_words(larger(drawing.lower_segments, drawing.upper_segments));
-            let filled = band_point_words(drawing);
-            own_rings(answer, true, words, links, filled, points, directory);
-            clear(lines, open_words(dx, peak));
-            clear(links, words);
-            answer
-        }
-    }
+    let drawing = band_pass(values, lower, upper, dx, dy, &mut marks, lines, links)?;
+    let answer = band_pack(
+        drawing, values, lower, dx, dy, &marks, lines, links, points, directory,
+    );
+    let segments = drawing.lower_segments.max(drawing.upper_segments);
+    let words = link_words(segments);
+    let filled = band_point_words(drawing);
+    own_rings(answer, true, words, links, filled, points, directory);
+    clear(lines, open_words(dx, drawing.peak));
+    clear(links, words);
+    answer
 }
 
 // The band of the thresholds k and k + 1 of a list: the points of the lower set's rings, then of the upper's, each by ring number, and a directory record a ring
@@ -145,10 +136,16 @@ pub fn isobands(
     ensures { BandBuilt values.now thresholds.now rule k dx dy lines.old links.old points.old directory.old result
         lines.new links.new points.new directory.new }
 {
-    match band_pair(values.len(), dx, dy, thresholds, rule, k) {
-        Err(refusal) => Err(refusal),
-        BandFit::Fits(lower, upper) => band_over(
-            values, lower, upper, dx, dy, lines, links, points, directory,
-        ),
-    }
+    let levels = band_pair(values.len(), dx, dy, thresholds, rule, k)?;
+    band_over(
+        values,
+        levels.lower,
+        levels.upper,
+        dx,
+        dy,
+        lines,
+        links,
+        points,
+        directory,
+    )
 }

@@ -38,7 +38,7 @@ module _ {ps directory : List ℕ} {rings : ℕ} where
 answers-apart : {why : Refusal} {n : ℕ} → Err why ≡ Ok n → ⊥
 answers-apart e = let z : ◌≡◌ {A = ℕ} 0 1 = cc in omega arith
 
-refusals-apart : Err BadRingSet ≡ Err TextShort → ⊥
+refusals-apart : ◌≡◌ {A = Result ℕ Refusal} (Err BadRingSet) (Err TextShort) → ⊥
 refusals-apart e = let z : ◌≡◌ {A = ℕ} 0 1 = cc in omega arith
 
 -- number 9 where the set does not pass, and else the length

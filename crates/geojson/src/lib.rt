@@ -9,13 +9,6 @@ use geotext::text_length;
 use ringset::ring_set_faulty;
 use writing::write_within;
 
-// How long a text is, or why there is none.
-#[derive(Clone, Copy)]
-pub enum TextAnswer {
-    Bytes(u64),
-    Refused(Refusal),
-}
-
 // The number of bytes that the text of a ring set needs.
 pub fn geojson_length(points: &[u16], directory: &[u32], rings: u32) -> Result<u64, Refusal>
     ensures { result ≡ length_answer points.now directory.now rings }
@@ -27,7 +20,12 @@ pub fn geojson_length(points: &[u16], directory: &[u32], rings: u32) -> Result<u
 }
 
 // Writes the text of a ring set: one GeoJSON MultiPolygon. Bytes past the text stay, and a refusal changes nothing.
-pub fn write_geojson(points: &[u16], directory: &[u32], rings: u32, text: &mut [u8]) -> Result<u64, Refusal>
+pub fn write_geojson(
+    points: &[u16],
+    directory: &[u32],
+    rings: u32,
+    text: &mut [u8],
+) -> Result<u64, Refusal>
     ensures value { result ≡ written_answer points.now directory.now rings text.old }
     ensures text_after { text.new ≡ text_after points.now directory.now rings text.old }
 {

@@ -5,7 +5,8 @@ ghost use Rattle.std.specs.Prelude.{◌+◌, ◌*◌, ◌^◌, ◌<◌};
 ghost use Rattle.smoothing.specs.Values.{placing_of};
 ghost use Rattle.linebuilder.specs.Lines.{Plotted, LinesBuilt};
 
-use isoringbuilder::{Built, Drawing, Pass, answer_for, link_words, open_words, run_pass};
+use error::Refusal;
+use isoringbuilder::{Drawing, answer_for, link_words, open_words, run_pass};
 use limits::RECORD_STRIDE;
 use packing::clear;
 use plotting::write_lines;
@@ -30,17 +31,13 @@ fn plot(
         points.new directory.new }
 {
     let segments = drawing.segments;
-    let rings = drawing.rings;
-    let head = drawing.head;
     let room = directory.len() / RECORD_STRIDE;
-    let answer = answer_for(segments, rings, points.len(), room);
-    let Ok(_) = answer else {
-        return answer;
-    };
+    let count = answer_for(segments, drawing.rings, points.len(), room)?;
+    let head = drawing.head;
     write_lines(
         values, level, dx, dy, smooth, placement, links, head, segments, points, directory,
     );
-    answer
+    Ok(count)
 }
 
 // Every ring of a grid at one level as a line, in the crate's order, vertex order and first vertex: points packed by ring number, smoothed where that is
@@ -61,18 +58,11 @@ pub fn contour_lines(
     ensures { LinesBuilt values.now level dx dy smooth (placing_of placement) lines.old links.old points.old directory.old result
         lines.new links.new points.new directory.new }
 {
-    match run_pass(values, level, dx, dy, lines, links) {
-        Err(refusal) => Err(refusal),
-        Ok(drawing) => {
-            let answer = plot(
-                drawing, values, level, dx as u32, dy as u32, smooth, placement, links, points,
-                directory,
-            );
-            let peak = drawing.peak;
-            let segments = drawing.segments;
-            clear(lines, open_words(dx, peak));
-            clear(links, link_words(segments));
-            answer
-        }
-    }
+    let drawing = run_pass(values, level, dx, dy, lines, links)?;
+    let answer = plot(
+        drawing, values, level, dx as u32, dy as u32, smooth, placement, links, points, directory,
+    );
+    clear(lines, open_words(dx, drawing.peak));
+    clear(links, link_words(drawing.segments));
+    answer
 }

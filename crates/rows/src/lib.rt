@@ -11,7 +11,7 @@ ghost use Rattle.rows.specs.Values.{outcome_of};
 
 use error::Refusal;
 use giving::{Play, file_lines, give_row};
-use isoringbuilder::{Built, link_words, open_words};
+use isoringbuilder::{link_words, open_words};
 use limits::{RECORD_STRIDE, SIDE_LIMIT};
 use packing::clear;
 use scan::{ROW_WORDS, lower_word};

@@ -2,17 +2,18 @@
 -- Assumes nothing.
 use Rattle.bands.proofs.Fit.{paired, pair-refused}
 use Rattle.contourbuilder.proofs.Banded.{isobands-unfit}
+use Rattle.error.proofs.Passing.{passed-on}
 use Rattle.contourbuilder.proofs.isobands.Goals as goal
 
 pub band_over-requires : goal.band_over-requires
 band_over-requires c =
-    (paired _ _ _ c.args.k c.args.thresholds.now c.args.rule _ _ _ c.in-Fits.is c.band_pair.ensures).grid
+    (paired _ _ _ c.args.k c.args.thresholds.now c.args.rule _ _ c.in_ok-levels.was c.band_pair.ensures).grid
 
-pub returns-in-Refused : goal.returns-in-Refused
-returns-in-Refused c =
-    isobands-unfit _ _ (pair-refused _ _ _ c.args.k c.args.thresholds.now c.args.rule _ _ c.in-Refused.is c.band_pair.ensures) _ _ _ _ _ _ _ _
+pub returns-in_err-levels : goal.returns-in_err-levels
+returns-in_err-levels c =
+    rw (passed-on _ c.from_residual.ensures.1) (isobands-unfit _ _ (pair-refused _ _ _ c.args.k c.args.thresholds.now c.args.rule _ _ c.in_err-levels.was c.band_pair.ensures) _ _ _ _ _ _ _ _)
 
-pub returns-in-Fits : goal.returns-in-Fits
-returns-in-Fits c =
-    let facts = paired _ _ _ c.args.k c.args.thresholds.now c.args.rule _ _ _ c.in-Fits.is c.band_pair.ensures in
+pub returns : goal.returns
+returns c =
+    let facts = paired _ _ _ c.args.k c.args.thresholds.now c.args.rule _ _ c.in_ok-levels.was c.band_pair.ensures in
     rw (facts.fits, ← facts.lower-is, ← facts.upper_is) c.band_over.ensures

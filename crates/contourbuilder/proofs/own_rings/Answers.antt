@@ -7,26 +7,26 @@ use Rattle.contourbuilder.proofs.own_rings.Goals as goal
 
 pub slice_bounds-drawn-end : goal.slice_bounds-drawn-end
 slice_bounds-drawn-end c =
-    sym (length-take-le _ _ (ownable-rings c.in-Rings.is _ _ _ _ _ c.requires).1)
+    sym (length-take-le _ _ (ownable-rings c.in-Ok.is _ _ _ _ _ c.requires).1)
 
 pub slice_bounds-own_either-end : goal.slice_bounds-own_either-end
 slice_bounds-own_either-end c =
-    (ownable-rings c.in-Rings.is _ _ _ _ _ c.requires).0
+    (ownable-rings c.in-Ok.is _ _ _ _ _ c.requires).0
 
-pub slice_bounds-own_either-end-in-Rings : goal.slice_bounds-own_either-end-in-Rings
-slice_bounds-own_either-end-in-Rings c =
-    sym (length-take-le _ _ (ownable-rings c.in-Rings.is _ _ _ _ _ c.requires).0)
+pub slice_bounds-own_either-end-in-Ok : goal.slice_bounds-own_either-end-in-Ok
+slice_bounds-own_either-end-in-Ok c =
+    sym (length-take-le _ _ (ownable-rings c.in-Ok.is _ _ _ _ _ c.requires).0)
 
 pub own_either-requires : goal.own_either-requires
 own_either-requires c =
-    let asked = ownable-rings c.in-Rings.is _ _ _ _ _ c.requires in
+    let asked = ownable-rings c.in-Ok.is _ _ _ _ _ c.requires in
     (asked.2, asked.3)
 
-pub returns-in-Rings : goal.returns-in-Rings
-returns-in-Rings c =
-    let fits = (ownable-rings c.in-Rings.is _ _ _ _ _ c.requires).0 in
+pub returns-in-Ok : goal.returns-in-Ok
+returns-in-Ok c =
+    let fits = (ownable-rings c.in-Ok.is _ _ _ _ _ c.requires).0 in
     let called = c.own_either in
-    owners-written c.in-Rings.is _ _ _ called.new.scratch _ _ _ _ fits (called.auto.scratch ∙ length-take-le _ _ fits) called.ensures
+    owners-written c.in-Ok.is _ _ _ called.new.scratch _ _ _ _ fits (called.auto.scratch ∙ length-take-le _ _ fits) called.ensures
 
 pub returns-in_default : goal.returns-in_default
 returns-in_default c = none_written c.in_default.is _ _ _ _ _ _

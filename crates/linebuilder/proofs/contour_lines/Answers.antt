@@ -4,28 +4,30 @@ use native.Mathlib.Omega.{arith}
 use Rattle.isoringbuilder.proofs.Limits.{columns-fit, rows_fit}
 use Rattle.isoringbuilder.proofs.Laws.{done-facts}
 use Rattle.linebuilder.proofs.Laws.{lines-refused, lines-done}
+use Rattle.error.proofs.Passing.{passed-on}
 use Rattle.linebuilder.proofs.contour_lines.Goals as goal
 
 pub overflow_cast-dx : goal.overflow_cast-dx
 overflow_cast-dx c =
-    omega (arith, columns-fit c.args.values.now c.args.level _ _ (done-facts _ _ _ _ _ _ _ _ c.in-Done.is _ _ c.run_pass.ensures).sized)
+    omega (arith, columns-fit c.args.values.now c.args.level _ _ (done-facts _ _ _ _ _ _ _ _ c.in_ok-drawing.was _ _ c.run_pass.ensures).sized)
 
 pub overflow_cast-dy : goal.overflow_cast-dy
 overflow_cast-dy c =
-    omega (arith, rows_fit c.args.values.now c.args.level _ _ (done-facts _ _ _ _ _ _ _ _ c.in-Done.is _ _ c.run_pass.ensures).sized)
+    omega (arith, rows_fit c.args.values.now c.args.level _ _ (done-facts _ _ _ _ _ _ _ _ c.in_ok-drawing.was _ _ c.run_pass.ensures).sized)
 
 pub plot-answer-requires : goal.plot-answer-requires
 plot-answer-requires c =
-    omega (arith, columns-fit c.args.values.now c.args.level _ _ (done-facts _ _ _ _ _ _ _ _ c.in-Done.is _ _ c.run_pass.ensures).sized)
+    omega (arith, columns-fit c.args.values.now c.args.level _ _ (done-facts _ _ _ _ _ _ _ _ c.in_ok-drawing.was _ _ c.run_pass.ensures).sized)
 
 pub open_words-requires : goal.open_words-requires
 open_words-requires c =
-    (done-facts _ _ _ _ _ _ _ _ c.in-Done.is _ _ c.run_pass.ensures).sized.columns
+    (done-facts _ _ _ _ _ _ _ _ c.in_ok-drawing.was _ _ c.run_pass.ensures).sized.columns
 
-pub returns-in-Refused : goal.returns-in-Refused
-returns-in-Refused c = lines-refused _ _ _ _ _ _ _ _ _ c.in-Refused.refusal c.in-Refused.is _ _ c.run_pass.ensures _ _
+pub returns-in_err-drawing : goal.returns-in_err-drawing
+returns-in_err-drawing c =
+    rw (passed-on _ c.from_residual.ensures.1) (lines-refused _ _ _ _ _ _ _ _ _ _ c.in_err-drawing.was _ _ c.run_pass.ensures _ _)
 
-pub returns-in-Done : goal.returns-in-Done
-returns-in-Done c =
-    rw (c.clear.ensures, c.open_words.ensures, c.clear-in-Done.ensures, c.link_words.ensures)
-    (lines-done _ _ _ _ _ _ _ _ _ _ _ (done-facts _ _ _ _ _ _ _ _ c.in-Done.is _ _ c.run_pass.ensures) _ _ _ _ _ c.plot-answer.ensures)
+pub returns : goal.returns
+returns c =
+    rw (c.clear.ensures, c.open_words.ensures, c.clear-2.ensures, c.link_words.ensures)
+    (lines-done _ _ _ _ _ _ _ _ _ _ _ (done-facts _ _ _ _ _ _ _ _ c.in_ok-drawing.was _ _ c.run_pass.ensures) _ _ _ _ _ c.plot-answer.ensures)
