@@ -14,6 +14,7 @@ use Rattle.scope.specs.Stitching.{Line}
 use Rattle.scope.specs.GeoJson.{ring_at, ring_set_refused}
 use Rattle.laws.proofs.Rings.{OddSum}
 use Rattle.explaining.specs.Fates.{rings_from, rings_in, fate_told, fate_answer}
+use Rattle.std.specs.Prelude.{Ok}
 use Rattle.explaining.specs.Vertices.{in_grid, midway_in_row, midway_in_column, midway}
 
 -- ---- fates
@@ -32,9 +33,9 @@ module _ (ps directory : List ℕ) where
     rings-are = rings-from rings 0 (λ i h. ap (ring_at ps directory) (zero-add i) ∙ found i h)
 
     -- where the set passes, a ring's fate is that of the list
-    pub fate-by-rings : ring_set_refused ps directory (length rings) ≡ false → (i : ℕ) → i < length rings → fate_answer ps directory (length rings) i ≡ fate_told rings i
+    pub fate-by-rings : ring_set_refused ps directory (length rings) ≡ false → (i : ℕ) → i < length rings → fate_answer ps directory (length rings) i ≡ Ok (fate_told rings i)
     unfolding fate_answer
-    fate-by-rings passes i h = rw (passes, lt-ltb i (length rings) h) (ap (λ (l : List Line). fate_told l i) rings-are)
+    fate-by-rings passes i h = rw (passes, lt-ltb i (length rings) h) (ap (λ (l : List Line). Ok (fate_told l i)) rings-are)
 
 -- ---- vertices
 

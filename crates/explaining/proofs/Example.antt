@@ -49,7 +49,7 @@ row_values = map whole (0 ∷ 4 ∷ [])
 -- 0.25 is 1 · 2 ^ -2
 pub the-frame-and-the-row :
     (fate_answer frame_points frame_records 2 0 ≡ Ok (fate-is.Hole 1 (decision-is.Inside 0)))
-    × (fate_answer frame_points frame_records 2 1 ≡ (Ok fate-is.Polygon))
+    × (fate_answer frame_points frame_records 2 1 ≡ Ok fate-is.Polygon)
     × (fate_answer frame_points frame_records 2 2 ≡ Err NotThere)
     × (fate_answer frame_points [] 2 2 ≡ Err BadRingSet)
     × (polygon_answer frame_points frame_records 2 0 1 ≡ Ok (decision-is.Outside 0))

@@ -34,7 +34,7 @@ fates-at classes all [] i h = absurd (not-suc-le-zero h)
 fates-at classes all (ring ∷ rings) zero h = refl
 fates-at classes all (ring ∷ rings) (suc i) h = fates-at classes all rings i (le_of_suc-le-suc h)
 
-told-by : (all : List Line) (ring : Line) (b : Bool) (fate : Fate) → told all ring (cond b polygon fate) ≡ cond b (Ok fate-is.Polygon) (told all ring fate)
+told-by : (all : List Line) (ring : Line) (b : Bool) (fate : Fate) → told all ring (cond b polygon fate) ≡ cond b fate-is.Polygon (told all ring fate)
 unfolding told
 told-by all ring true fate = refl
 told-by all ring false fate = refl
@@ -103,13 +103,13 @@ module _ (ps directory : List ℕ) where
 
       -- any other is the owner
       pub the-owner : k < rings → is_polygon_by ps directory k ≡ true → takes (ring_at ps directory k) ring ≡ true →
-          Ok (fate-is.Hole k (decision_of (ring_at ps directory k) ring)) ≡ hole_told (rings_in ps directory rings) ring
+          fate-is.Hole k (decision_of (ring_at ps directory k) ring) ≡ hole_told (rings_in ps directory rings) ring
       unfolding hole_told told rings_in
       the-owner h e f =
           let found : owner_among 0 rings ≡ hole k = sought-next h ∙ rw (e, f) refl in
-          sym (ap (told (rings_from ps directory 0 rings) ring) found ∙ ap (λ (l : Line). Ok (fate-is.Hole k (decision_of l ring))) (ring_of h))
+          sym (ap (told (rings_from ps directory 0 rings) ring) found ∙ ap (λ (l : Line). fate-is.Hole k (decision_of l ring)) (ring_of h))
 
-      pub no-owner : rings ≤ k → (Ok fate-is.Dropped) ≡ hole_told (rings_in ps directory rings) ring
+      pub no-owner : rings ≤ k → fate-is.Dropped ≡ hole_told (rings_in ps directory rings) ring
       unfolding hole_told told rings_in owner_from contour_classes rings_from
       no-owner h =
           let e : rings - k ≡ 0 = omega arith in
@@ -161,7 +161,7 @@ module _ (ps directory : List ℕ) where
     Shows (Ok fate-is.Dropped) = AllOutside ps directory i rings
     Shows (Err why) = Unit {0}
 
-    told-shows : i < rings → (fate : Fate) → Shown (ring_at ps directory i) 0 rings fate → Shows (told (rings_in ps directory rings) (ring_at ps directory i) fate)
+    told-shows : i < rings → (fate : Fate) → Shown (ring_at ps directory i) 0 rings fate → Shows (Ok (told (rings_in ps directory rings) (ring_at ps directory i) fate))
     unfolding told
     told-shows h polygon s = absurd s
     told-shows h (hole k) s = record {
@@ -175,7 +175,7 @@ module _ (ps directory : List ℕ) where
     told-shows h line s = absurd s
 
     -- the fate of a ring of the set, polygon or not
-    pub fate-of : i < rings → fate_told (rings_in ps directory rings) i ≡ cond (is_polygon_by ps directory i) (Ok fate-is.Polygon) (hole_told (rings_in ps directory rings) (ring_at ps directory i))
+    pub fate-of : i < rings → fate_told (rings_in ps directory rings) i ≡ cond (is_polygon_by ps directory i) fate-is.Polygon (hole_told (rings_in ps directory rings) (ring_at ps directory i))
     unfolding fate_told hole_told contour_fates is_polygon_by rings_in
     fate-of h =
         let fates = fates-at (contour_classes (rings_in ps directory rings)) (rings_in ps directory rings) (rings_in ps directory rings) i (rw rings-counted h) in
@@ -185,11 +185,11 @@ module _ (ps directory : List ℕ) where
     unfolding fate_answer hole_told rings_in
     shows = by (ring_set_refused ps directory rings) (ltb i rings) refl
       where
-        polygon-or-not : i < rings → (b : Bool) → Shows (cond b (Ok fate-is.Polygon) (hole_told (rings_in ps directory rings) (ring_at ps directory i)))
+        polygon-or-not : i < rings → (b : Bool) → Shows (Ok (cond b fate-is.Polygon (hole_told (rings_in ps directory rings) (ring_at ps directory i))))
         polygon-or-not h true = tt
         polygon-or-not h false = told-shows h (owner_among (ring_at ps directory i) 0 rings) (shown (ring_at ps directory i) rings 0 rings (zero-add rings))
 
-        by : (a b : Bool) → ltb i rings ≡ b → Shows (cond a (Err BadRingSet) (cond b (fate_told (rings_in ps directory rings) i) (Err NotThere)))
+        by : (a b : Bool) → ltb i rings ≡ b → Shows (cond a (Err BadRingSet) (cond b (Ok (fate_told (rings_in ps directory rings) i)) (Err NotThere)))
         by true b e = tt
         by false true e = let h = ltb-true i rings e in rw (fate-of h) (polygon-or-not h (is_polygon_by ps directory i))
         by false false e = tt

@@ -30,24 +30,24 @@ pub record RingOf (ps directory : List ℕ) (rings k : ℕ) : Type 0 where
 -- ---- the fate of a ring
 
 -- a fate, and for a hole what its owner answered; a contour has no line among its fates
-unfoldable pub told : List Line → Line → Fate → Result RingFate Refusal
-told all ring polygon = (Ok fate-is.Polygon)
-told all ring (hole k) = Ok (fate-is.Hole k (decision_of (get_or all k []) ring))
-told all ring dropped = (Ok fate-is.Dropped)
-told all ring line = (Ok fate-is.Dropped)
+unfoldable pub told : List Line → Line → Fate → RingFate
+told all ring polygon = fate-is.Polygon
+told all ring (hole k) = fate-is.Hole k (decision_of (get_or all k []) ring)
+told all ring dropped = fate-is.Dropped
+told all ring line = fate-is.Dropped
 
 -- a ring that is no polygon, among all rings
-unfoldable pub hole_told : List Line → Line → Result RingFate Refusal
+unfoldable pub hole_told : List Line → Line → RingFate
 hole_told all ring = told all ring (owner_from 0 (contour_classes all) all ring)
 
 -- ring i of all rings, by document 01's fates of a contour
-unfoldable pub fate_told : List Line → ℕ → Result RingFate Refusal
+unfoldable pub fate_told : List Line → ℕ → RingFate
 fate_told all i = told all (get_or all i []) (get_or (contour_fates all) i dropped)
 
 unfoldable pub fate_answer : List ℕ → List ℕ → ℕ → ℕ → Result RingFate Refusal
 fate_answer ps directory rings i =
     cond (ring_set_refused ps directory rings) (Err BadRingSet)
-    (cond (ltb i rings) (fate_told (rings_in ps directory rings) i) (Err NotThere))
+    (cond (ltb i rings) (Ok (fate_told (rings_in ps directory rings) i)) (Err NotThere))
 
 -- ring j is a polygon by its points
 unfoldable pub is_polygon_by : List ℕ → List ℕ → ℕ → Bool
@@ -69,7 +69,7 @@ pub record Owner (ps directory : List ℕ) (rings i k : ℕ) (d : Decision) : Ty
 pub record FateFound (ps directory : List ℕ) (rings i : ℕ) (answer : Result RingFate Refusal) : Type 0 where
   pub answers : answer ≡ fate_answer ps directory rings i
   pub of-hole : (k : ℕ) (d : Decision) → answer ≡ Ok (fate-is.Hole k d) → Owner ps directory rings i k d
-  pub of-dropped : answer ≡ (Ok fate-is.Dropped) → AllOutside ps directory i rings
+  pub of-dropped : answer ≡ Ok fate-is.Dropped → AllOutside ps directory i rings
 
 -- ---- the answer of one polygon
 

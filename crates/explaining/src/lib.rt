@@ -2,7 +2,7 @@
 // asked of the caller, no table is lent but the set itself, and nothing changes.
 #![tactic(auto)]
 
-ghost use Rattle.std.specs.Prelude.{◌≡◌, false, ◌<◌};
+ghost use Rattle.std.specs.Prelude.{◌≡◌, cond, false, ◌<◌};
 ghost use Rattle.scope.specs.Containment.{not_outside};
 ghost use Rattle.scope.specs.GeoJson.{count_at, ring_at, ring_set_refused};
 ghost use Rattle.deciding.specs.Decisions.{decision_of, answer_in};
@@ -12,7 +12,7 @@ ghost use Rattle.explaining.specs.Vertices.{in_grid, midway, vertex_of_ring, ver
 use cells::Point;
 use deciding::{Decision, decide};
 use error::Refusal;
-use grid::{GridFit, grid_fit};
+use grid::grid_fit;
 use noting::area_at;
 use ringset::{record_at, ring_set_faulty};
 use scope::Level;
@@ -27,26 +27,16 @@ pub enum RingFate {
     Hole(u32, Decision),
     // it is a hole, and every polygon answers -1
     Dropped,
-    // the ring set is faulty, or there is no ring of this number
-    Refused(Refusal),
 }
 
-// What a ring answers for another.
-#[derive(Clone, Copy)]
-pub enum PolygonAnswer {
-    // what the vertices of the other ring come to
-    Decided(Decision),
-    // the ring set is faulty, or there is no ring of such a number
-    Refused(Refusal),
-}
-
-// What smoothing does to a vertex of a ring.
-#[derive(Clone, Copy)]
-pub enum VertexAnswer {
-    // what it does to each coordinate
-    Moves(VertexMoves),
-    // the grid does not fit, the ring set is faulty, or there is no such vertex midway between two samples
-    Refused(Refusal),
+// Number 9 where the ring set is faulty.
+fn checked(points: &[u16], directory: &[u32], rings: u32) -> Result<(), Refusal>
+    ensures { result ≡ cond (ring_set_refused points.now directory.now rings) (Err Refusal.BadRingSet) (Ok tt) }
+{
+    if ring_set_faulty(points, directory, rings) {
+        return Err(Refusal::BadRingSet);
+    }
+    Ok(())
 }
 
 // Whether a ring of a checked set is a polygon by its points.
@@ -87,7 +77,7 @@ fn holds(answer: Decision) -> bool
 }
 
 // The fate of a ring of a checked set that is no polygon: the first polygon whose answer is not -1 is its owner.
-fn hole_told(points: &[u16], directory: &[u32], rings: u32, ring: u32) -> Result<RingFate, Refusal>
+fn hole_told(points: &[u16], directory: &[u32], rings: u32, ring: u32) -> RingFate
     requires { RingOf points.now directory.now rings ring }
     ensures { result ≡ hole_told (rings_in points.now directory.now rings) (ring_at points.now directory.now ring) }
 {
@@ -106,23 +96,28 @@ fn hole_told(points: &[u16], directory: &[u32], rings: u32, ring: u32) -> Result
     RingFate::Dropped
 }
 
-// What becomes of a ring of a contour, by the points of the ring set and not by the words of its records: what `contours` would have written for these rings.
-pub fn ring_fate(points: &[u16], directory: &[u32], rings: u32, ring: u32) -> Result<RingFate, Refusal>
+// What becomes of a ring of a contour, by the points of the ring set and not by the words of its records: what `contours` would have written for these rings. Number 9
+// where the ring set is faulty, and 15 where there is no ring of this number.
+pub fn ring_fate(
+    points: &[u16],
+    directory: &[u32],
+    rings: u32,
+    ring: u32,
+) -> Result<RingFate, Refusal>
     ensures { FateFound points.now directory.now rings ring result }
 {
-    if ring_set_faulty(points, directory, rings) {
-        return Err(Refusal::BadRingSet);
-    }
+    checked(points, directory, rings)?;
     if rings <= ring {
         return Err(Refusal::NotThere);
     }
     if polygon_at(points, directory, rings, ring) {
-        return RingFate::Polygon;
+        return Ok(RingFate::Polygon);
     }
-    hole_told(points, directory, rings, ring)
+    Ok(hole_told(points, directory, rings, ring))
 }
 
-// What one ring of a ring set, called the polygon whatever its class, answers for another, with the vertex that decides.
+// What one ring of a ring set, called the polygon whatever its class, answers for another, with the vertex that decides: what the vertices of the other ring come to.
+// Number 9 where the ring set is faulty, and 15 where there is no ring of such a number.
 pub fn polygon_answer(
     points: &[u16],
     directory: &[u32],
@@ -132,9 +127,7 @@ pub fn polygon_answer(
 ) -> Result<Decision, Refusal>
     ensures { result ≡ polygon_answer points.now directory.now rings polygon ring }
 {
-    if ring_set_faulty(points, directory, rings) {
-        return Err(Refusal::BadRingSet);
-    }
+    checked(points, directory, rings)?;
     if rings <= polygon {
         return Err(Refusal::NotThere);
     }
@@ -212,7 +205,8 @@ fn vertex_told(
     Ok(vertex_moves(values, level, dx, dy, point))
 }
 
-// What smoothing does to a vertex of a ring of a ring set, at a level of a grid.
+// What smoothing does to each coordinate of a vertex of a ring of a ring set, at a level of a grid. Numbers 1 and 2 where the grid does not fit, 9 where the ring set is
+// faulty, and 15 where there is no such vertex midway between two samples.
 pub fn smoothed_vertex(
     values: &[f64],
     level: Level,
@@ -226,12 +220,8 @@ pub fn smoothed_vertex(
 ) -> Result<VertexMoves, Refusal>
     ensures { result ≡ vertex_answer values.now level.threshold dx dy points.now directory.now rings ring vertex }
 {
-    if let Err(refusal) = grid_fit(values.len(), dx, dy) {
-        return Err(refusal);
-    }
-    if ring_set_faulty(points, directory, rings) {
-        return Err(Refusal::BadRingSet);
-    }
+    grid_fit(values.len(), dx, dy)?;
+    checked(points, directory, rings)?;
     vertex_told(
         values, level, dx as u32, dy as u32, points, directory, rings, ring, vertex,
     )
