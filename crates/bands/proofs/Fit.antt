@@ -54,9 +54,9 @@ module _ (count dx dy thresholds k : ℕ) where
     where
       by : (fit : Result (Unit {0}) Refusal) (a b : Bool) → grid_fit count dx dy ≡ fit → ltb thresholds 2 ≡ a → ltb (suc k) thresholds ≡ b → list_fit fit thresholds k ≡ Ok tt → Fitting
       by (Err why) a b ef ea eb z = absurd (let o : ◌≡◌ {A = ℕ} 0 1 = cc in omega arith)
-      by (Ok tt) true b ef ea eb z = absurd (let w : cond {A = Result (Unit {0}) Refusal} true (Err FewThresholds) (cond (ltb (suc k) thresholds) (Ok tt) (Err NoPair)) ≡ Ok tt = rw ea at z in let o : ◌≡◌ {A = ℕ} 0 1 = cc in omega arith)
-      by (Ok tt) false true ef ea eb z = record { grid = ef; place = ltb-true (suc k) thresholds eb }
-      by (Ok tt) false false ef ea eb z = absurd (let w : ◌≡◌ {A = Result (Unit {0}) Refusal} (Err NoPair) (Ok tt) = rw (ea, eb) at z in let o : ◌≡◌ {A = ℕ} 0 1 = cc in omega arith)
+      by (Ok _) true b ef ea eb z = absurd (let w : cond {A = Result (Unit {0}) Refusal} true (Err FewThresholds) (cond (ltb (suc k) thresholds) (Ok tt) (Err NoPair)) ≡ Ok tt = rw ea at z in let o : ◌≡◌ {A = ℕ} 0 1 = cc in omega arith)
+      by (Ok _) false true ef ea eb z = record { grid = ef; place = ltb-true (suc k) thresholds eb }
+      by (Ok _) false false ef ea eb z = absurd (let w : ◌≡◌ {A = Result (Unit {0}) Refusal} (Err NoPair) (Ok tt) = rw (ea, eb) at z in let o : ◌≡◌ {A = ℕ} 0 1 = cc in omega arith)
 
 -- what is known of the levels that a band is drawn between, and of a refusal
 module _ (count dx dy k : ℕ) (thresholds : List Float) (rule : Rule) where
@@ -75,7 +75,7 @@ module _ (count dx dy k : ℕ) (thresholds : List Float) (rule : Rule) where
     where
       by : (v : Result (Unit {0}) Refusal) → fit ≡ v → Ok levels ≡ fit_pair v thresholds rule k → Paired levels.lower levels.upper
       by (Err why) g z = absurd (let o : ◌≡◌ {A = ℕ} 0 1 = cc in omega arith)
-      by (Ok tt) g z = record {
+      by (Ok _) g z = record {
         fits = g;
         grid = (fitting count dx dy (length thresholds) k g).grid;
         lower-is = let same : levels ≡ record { lower = level_at thresholds rule k; upper = level_at thresholds rule (suc k) } = cc in ap (λ (l : BandLevels). l.lower) same;
@@ -89,4 +89,4 @@ module _ (count dx dy k : ℕ) (thresholds : List Float) (rule : Rule) where
     where
       by : (v : Result (Unit {0}) Refusal) → fit ≡ v → Err why ≡ fit_pair v thresholds rule k → fit ≡ Err why
       by (Err other) g z = let same : other ≡ why = cc in g ∙ ap Err same
-      by (Ok tt) g z = absurd (let o : ◌≡◌ {A = ℕ} 0 1 = cc in omega arith)
+      by (Ok _) g z = absurd (let o : ◌≡◌ {A = ℕ} 0 1 = cc in omega arith)

@@ -140,7 +140,7 @@ module _ (values : List Float) (lower upper : Level) (dx dy : ℕ) (lines links 
 
     pub report-done : (segments rings points : ℕ) → segments ≡ max drawing.lower_segments drawing.upper_segments → rings ≡ drawing.lower_rings + drawing.upper_rings
         → points ≡ drawing.lower_segments + drawing.upper_segments + rings → (lines₁ links₁ : List ℕ) → lines₁ ≡ cleared lines' (open_words dx drawing.peak) → links₁ ≡ cleared links' (link_words segments)
-        → ReportedOver (Ok tt) L U dx dy lines links (Ok (record { segments = segments; rings = rings; peak = drawing.peak; points = points })) lines₁ links₁
+        → ReportedOver (Ok _) L U dx dy lines links (Ok (record { segments = segments; rings = rings; peak = drawing.peak; points = points })) lines₁ links₁
     unfolding band_reported work_after point_count band_drawing
     report-done segments rings points es er ep lines₁ links₁ el ek = record {
       answers = room ∙ ap (λ (v : Verdict). band_reported v L U dx dy) (sym done.is-passes);

@@ -21,7 +21,7 @@ use Rattle.bands.specs.declared.BandLevels.{BandLevels}
 -- numbers 3 and 4, where the grid fits: a list of under two thresholds, and one in which k + 1 is no place
 unfoldable pub list_fit : Result (Unit {0}) Refusal → ℕ → ℕ → Result (Unit {0}) Refusal
 list_fit (Err why) count k = Err why
-list_fit (Ok tt) count k = cond (ltb count 2) (Err FewThresholds) (cond (ltb (suc k) count) (Ok tt) (Err NoPair))
+list_fit (Ok _) count k = cond (ltb count 2) (Err FewThresholds) (cond (ltb (suc k) count) (Ok tt) (Err NoPair))
 
 -- numbers 1 to 4: the values' count, the sides, the thresholds' count and k
 unfoldable pub band_fit : ℕ → ℕ → ℕ → ℕ → ℕ → Result (Unit {0}) Refusal
@@ -34,7 +34,7 @@ level_at thresholds rule k = record { threshold = get_or thresholds k nan; rule 
 -- the levels of the lower threshold, k, and the upper, k + 1
 unfoldable pub fit_pair : Result (Unit {0}) Refusal → List Float → Rule → ℕ → Result BandLevels Refusal
 fit_pair (Err why) thresholds rule k = Err why
-fit_pair (Ok tt) thresholds rule k = Ok (record { lower = level_at thresholds rule k; upper = level_at thresholds rule (suc k) })
+fit_pair (Ok _) thresholds rule k = Ok (record { lower = level_at thresholds rule k; upper = level_at thresholds rule (suc k) })
 
 -- and their sheets
 abbrev pub lower_sheet : List Float → List Float → Rule → ℕ → ℕ → ℕ → Sheet

@@ -32,8 +32,12 @@ use Rattle.error.specs.declared.Refusal.{Refusal}
 -- what a second report gives, and what isobands is to come to
 abbrev pub room_over : Sheet → Sheet → ℕ → ℕ → Result SecondReport Refusal
 room_over L U dx dy =
-    ??second_is.Room (max (segment_count L dx dy) (segment_count U dx dy)) (ring_count L dx dy + ring_count U dx dy) (max (peak L dx dy) (peak U dx dy))
-    (point_count (segment_count L dx dy) (ring_count L dx dy) + point_count (segment_count U dx dy) (ring_count U dx dy))
+    Ok (record {
+      segments = max (segment_count L dx dy) (segment_count U dx dy);
+      rings = ring_count L dx dy + ring_count U dx dy;
+      peak = max (peak L dx dy) (peak U dx dy);
+      points = point_count (segment_count L dx dy) (ring_count L dx dy) + point_count (segment_count U dx dy) (ring_count U dx dy);
+    })
 
 abbrev pub plan_over : Result (Unit {0}) Refusal → Sheet → Sheet → ℕ → ℕ → Plan ℕ
 plan_over fit L U dx dy = record {
@@ -100,7 +104,7 @@ band_room_at values thresholds rule k dx dy = room_over (lower_sheet values thre
 module _ (values thresholds : List Float) (rule : Rule) (k dx dy : ℕ) where
   -- numbers 1 to 4 in a band's first report, and its room exactly where the band fits
   pub band-first-report-exactly : FitExact Err (band_first_report values thresholds rule k dx dy) (length values) dx dy (length thresholds) k
-      × ((band_fit (length values) dx dy (length thresholds) k ≡ Ok tt) ↔ (band_first_report values thresholds rule k dx dy ≡ band_room_of (lower_sheet values thresholds rule k dx dy) (upper_sheet values thresholds rule k dx dy) dx dy))
+      × ((band_fit (length values) dx dy (length thresholds) k ≡ Ok tt) ↔ (band_first_report values thresholds rule k dx dy ≡ Ok (band_room_of (lower_sheet values thresholds rule k dx dy) (upper_sheet values thresholds rule k dx dy) dx dy)))
   unfolding band_first_report band_room_of
   band-first-report-exactly =
       let exactly = report-for-exactly (band_fit (length values) dx dy (length thresholds) k) _ _ in

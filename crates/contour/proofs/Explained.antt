@@ -54,7 +54,7 @@ Acted directory i (Ok fate-is.Dropped) = (class_at directory i ≡ 1) × (owner_
 Acted directory i (Err why) = ⊥
 
 acted : (directory : List ℕ) (i : ℕ) (all : List Line) (ring : Line) (P : ℕ → Type 0) (fate : Fate) → class_at directory i ≡ class_word fate → owner_at directory i ≡ owner_word i fate → OwnedBy P fate
-    → Acted directory i (told all ring fate)
+    → Acted directory i (Ok (told all ring fate))
 unfolding told class_word owner_word
 acted directory i all ring P polygon c o w = (c, o)
 acted directory i all ring P (hole k) c o w = (c, o)
@@ -92,7 +92,7 @@ module _ {values : List Float} {level : Level} {dx dy : ℕ} {lines links points
   unfolding written
   record_of i h = rw (stands.points-are, stands.directory-is) (contour-record rings _ _ i h)
 
-  fate-is-the-list's : (i : ℕ) → i < length rings → fate_answer points' directory' n i ≡ fate_told rings i
+  fate-is-the-list's : (i : ℕ) → i < length rings → fate_answer points' directory' n i ≡ Ok (fate_told rings i)
   fate-is-the-list's i h =
       rw (← counted)
       (fate-by-rings points' directory' rings (λ k l. (record_of k l).ring-is) (rw counted (contours-checked values level dx dy lines links points directory b n is).passes-nine) i h)
@@ -106,7 +106,7 @@ module _ {values : List Float} {level : Level} {dx dy : ℕ} {lines links points
       let as_many = fates-length (contour_classes rings) rings (contour_classes rings) rings classed in
       let owned = each_at _ (contour_fates rings) line (fates-owned (contour_classes rings) rings classed) i (omega (arith, as_many)) in
       let r = record_of i there in
-      subst (Acted directory' i) (sym (found.answers ∙ fate-is-the-list's i there ∙ ap (told rings (get_or rings i [])) (within (contour_fates rings) i dropped line (omega (arith, as_many)))))
+      subst (Acted directory' i) (sym (found.answers ∙ fate-is-the-list's i there ∙ ap (λ (f : Fate). Ok (told rings (get_or rings i []) f)) (within (contour_fates rings) i dropped line (omega (arith, as_many)))))
       (acted directory' i rings (get_or rings i []) _ (get_or (contour_fates rings) i line) r.class-is r.owner-is owned)
 
   -- ---- 2. vertices

@@ -16,13 +16,13 @@ use Rattle.contour.proofs.Lowest.{three, first-exactly, second-exactly, third-ex
 use Rattle.contour.proofs.Grids.{GridExact, grid-early, grid-exact}
 use Rattle.std.specs.Prelude.{Result, Ok, Err}
 
-few≢fits : Err FewThresholds ≢ (Ok tt)
+few≢fits : ◌≢◌ {A = Result (Unit {0}) Refusal} (Err FewThresholds) (Ok tt)
 few≢fits e = let z : ◌≡◌ {A = ℕ} 0 1 = cc in omega arith
 
-few≢no-pair : Err FewThresholds ≢ Err NoPair
+few≢no-pair : ◌≢◌ {A = Result (Unit {0}) Refusal} (Err FewThresholds) (Err NoPair)
 few≢no-pair e = let z : ◌≡◌ {A = ℕ} 0 1 = cc in omega arith
 
-fits≢no-pair : (Ok tt) ≢ Err NoPair
+fits≢no-pair : ◌≢◌ {A = Result (Unit {0}) Refusal} (Ok tt) (Err NoPair)
 fits≢no-pair e = let z : ◌≡◌ {A = ℕ} 0 1 = cc in omega arith
 
 -- an answer against the first four numbers: 1 and 2 are the grid's, 3 is given where it fits and there are under two thresholds, and 4 where it fits, there are
@@ -47,17 +47,17 @@ module _ (thresholds k : ℕ) where
   -- behind a grid
   grid-first : (fit : Result (Unit {0}) Refusal) (why : Refusal) → refusal_number why ≤ 2 → (fit ≡ Err why) ↔ (list_fit fit thresholds k ≡ Err why)
   unfolding list_fit
-  grid-first (Ok tt) why low = (λ e. absurd (let z : ◌≡◌ {A = ℕ} 0 1 = cc in omega arith), λ e. absurd (omega (arith, list-gives why e)))
+  grid-first (Ok _) why low = (λ e. absurd (let z : ◌≡◌ {A = ℕ} 0 1 = cc in omega arith), λ e. absurd (omega (arith, list-gives why e)))
   grid-first (Err f) why low = Iff.rfl
 
   behind : (fit x : Result (Unit {0}) Refusal) → Early 2 fit → ((why : Refusal) → x ≡ Err why → 3 ≤ refusal_number why) → ((fit ≡ Ok tt) × (list ≡ x)) ↔ (list_fit fit thresholds k ≡ x)
   unfolding list_fit
-  behind (Ok tt) x early late = (λ h. h.1, λ e. (refl, e))
+  behind (Ok _) x early late = (λ h. h.1, λ e. (refl, e))
   behind (Err f) x early late = (λ h. absurd (let z : ◌≡◌ {A = ℕ} 0 1 = cc in omega arith), λ e. absurd (omega (arith, early f refl, late f (sym e))))
 
   list-early : (fit : Result (Unit {0}) Refusal) → Early 2 fit → Early 4 (list_fit fit thresholds k)
   unfolding list_fit
-  list-early (Ok tt) early why e = (list-gives why e).1
+  list-early (Ok _) early why e = (list-gives why e).1
   list-early (Err f) early why e = omega (arith, early why e)
 
   few-exactly : (thresholds < 2) ↔ (list ≡ Err FewThresholds)

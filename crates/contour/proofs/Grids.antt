@@ -13,7 +13,7 @@ use Rattle.scope.specs.Limits.{side_limit}
 use Rattle.grid.specs.Grid.{bad_side, bad_count, grid_fit}
 use Rattle.grid.proofs.Laws.{no-columns-are-refused, too-many-columns-are-refused, no-rows-are-refused, too-many-rows-are-refused, a-wrong-count-is-refused, a-right-count-fits}
 use Rattle.contour.proofs.Lowest.{of_three, Early, fit-number}
-use Rattle.std.specs.Prelude.{Ok, Err}
+use Rattle.std.specs.Prelude.{Result, Ok, Err}
 
 -- a side is 0 or above the limit, or it is neither
 abbrev pub WrongSide : ℕ → Type 0
@@ -53,15 +53,15 @@ module _ (count dx dy : ℕ) where
   wrong-is-refused (inr (inr more)) = too-many-rows-are-refused count dx dy more
 
   -- what a refusal tells of the grid, by all cases of its sides and its count
-  told : (P : Type 0) (why : Refusal) → grid_fit count dx dy ≡ Err why → ((WrongSide dx ⊎ WrongSide dy) → Err BadSide ≡ Err why → P)
-      → (RightSide dx × RightSide dy × (count ≢ dx * dy) → Err BadDimension ≡ Err why → P) → P
+  told : (P : Type 0) (why : Refusal) → grid_fit count dx dy ≡ Err why → ((WrongSide dx ⊎ WrongSide dy) → ◌≡◌ {A = Result (Unit {0}) Refusal} (Err BadSide) (Err why) → P)
+      → (RightSide dx × RightSide dy × (count ≢ dx * dy) → ◌≡◌ {A = Result (Unit {0}) Refusal} (Err BadDimension) (Err why) → P) → P
   told P why e wrong miscounted = by (either dx) (either dy) (ℕ_discrete count (dx * dy))
     where
       by : WrongSide dx ⊎ RightSide dx → WrongSide dy ⊎ RightSide dy → Dec (count ≡ dx * dy) → P
       by (inl w) side counted = wrong (inl w) (wrong-is-refused (inl w) ∙ e)
       by (inr x) (inl w) counted = wrong (inr w) (wrong-is-refused (inr w) ∙ e)
       by (inr x) (inr y) (yes right) =
-          let fits : (Ok tt) ≡ Err why = a-right-count-fits count dx dy x.0 x.1 y.0 y.1 right ∙ e in
+          let fits : ◌≡◌ {A = Result (Unit {0}) Refusal} (Ok tt) (Err why) = a-right-count-fits count dx dy x.0 x.1 y.0 y.1 right ∙ e in
           absurd (let z : ◌≡◌ {A = ℕ} 0 1 = cc in omega arith)
       by (inr x) (inr y) (no other) = miscounted (x, y, other) (a-wrong-count-is-refused count dx dy x.0 x.1 y.0 y.1 other ∙ e)
 

@@ -41,16 +41,16 @@ lower-same f = by (leb (refusal_number f) (refusal_number f))
 -- two first reports: the larger S and the larger H
 unfoldable pub joined_first : Result FirstReport Refusal → Result FirstReport Refusal → Result FirstReport Refusal
 joined_first (Err f) (Err g) = Err (lower f g)
-joined_first (Err f) (Ok (record { segments = s; peak = h })) = Err f
-joined_first (Ok (record { segments = s; peak = h })) (Err g) = Err g
-joined_first (Ok (record { segments = s; peak = h })) (Ok (record { segments = s'; peak = h' })) = Ok (record { segments = max s s'; peak = max h h' })
+joined_first (Err f) (Ok b) = Err f
+joined_first (Ok a) (Err g) = Err g
+joined_first (Ok a) (Ok b) = Ok (record { segments = max a.segments b.segments; peak = max a.peak b.peak })
 
 -- two second reports: the larger S, the sum of R, the larger H, and the sum of the points
 unfoldable pub joined_second : Result SecondReport Refusal → Result SecondReport Refusal → Result SecondReport Refusal
 joined_second (Err f) (Err g) = Err (lower f g)
-joined_second (Err f) (Ok (record { segments = s; rings = r; peak = h; points = p })) = Err f
-joined_second (Ok (record { segments = s; rings = r; peak = h; points = p })) (Err g) = Err g
-joined_second (Ok (record { segments = s; rings = r; peak = h; points = p })) (Ok (record { segments = s'; rings = r'; peak = h'; points = p' })) = Ok (record { segments = max s s'; rings = r + r'; peak = max h h'; points = p + p' })
+joined_second (Err f) (Ok b) = Err f
+joined_second (Ok a) (Err g) = Err g
+joined_second (Ok a) (Ok b) = Ok (record { segments = max a.segments b.segments; rings = a.rings + b.rings; peak = max a.peak b.peak; points = a.points + b.points })
 
 -- a table is short for the larger of two needs where it is short for one of them
 either-short : (m n n' larger : ℕ) → larger ≡ max n n' → ltb m larger ≡ ltb m n || ltb m n'
@@ -87,13 +87,13 @@ module _ (L U : Sheet) (dx dy : ℕ) (lines links : ℕ) where
       (reported (after_grid fit (rooms OpenShort LinksShort lines (open_words dx (peak U dx dy)) links (link_words (segment_count U dx dy)))) U dx dy)
   unfolding band_verdict after_grid band_reported reported joined_second
   by-fit (Err f) = ap Err (sym (lower-same f))
-  by-fit (Ok tt) =
+  by-fit (Ok _) =
       ap₂ (λ (x y : Bool). band_reported (cond x (refused OpenShort) (cond y (refused LinksShort) passes)) L U dx dy) open-either links-either
       ∙ by_tests (ltb lines (open_words dx (peak L dx dy))) (ltb lines (open_words dx (peak U dx dy))) (ltb links (link_words (segment_count L dx dy))) (ltb links (link_words (segment_count U dx dy)))
 
   first-by-fit : (fit : Result (Unit {0}) Refusal) → report_for fit (band_room_of L U dx dy) ≡ joined_first (report_for fit (room_of L dx dy)) (report_for fit (room_of U dx dy))
   unfolding report_for band_room_of room_of joined_first
-  first-by-fit (Ok tt) = refl
+  first-by-fit (Ok _) = refl
   first-by-fit (Err f) = ap Err (sym (lower-same f))
 
 -- where k + 1 is a place in the list
@@ -103,7 +103,7 @@ module _ (values thresholds : List Float) (rule : Rule) (k dx dy : ℕ) (place :
   listed = by (grid_fit (length values) dx dy)
     where
       by : (fit : Result (Unit {0}) Refusal) → list_fit fit (length thresholds) k ≡ fit
-      by (Ok tt) = rw (le-ltb (length thresholds) 2 (omega arith), lt-ltb (suc k) (length thresholds) place)
+      by (Ok _) = rw (le-ltb (length thresholds) 2 (omega arith), lt-ltb (suc k) (length thresholds) place)
       by (Err f) = refl
 
   -- a band's first report joins the first reports of its two thresholds

@@ -121,24 +121,24 @@ then-up-to passes w most up up' why e = up' why e
 -- the verdict on a fit
 pub fit-exactly : (fit : Result (Unit {0}) Refusal) (why : Refusal) → (fit ≡ Err why) ↔ (after_grid fit passes ≡ refused why)
 unfolding after_grid
-fit-exactly (Ok tt) why = (λ e. absurd (let z : ◌≡◌ {A = ℕ} 0 1 = cc in omega arith), λ e. absurd (no-refusal why (sym e)))
+fit-exactly (Ok _) why = (λ e. absurd (let z : ◌≡◌ {A = ℕ} 0 1 = cc in omega arith), λ e. absurd (no-refusal why (sym e)))
 fit-exactly (Err f) why = (λ e. cc, λ e. cc)
 
 pub fits-exactly : (fit : Result (Unit {0}) Refusal) → (fit ≡ Ok tt) ↔ (after_grid fit passes ≡ passes)
 unfolding after_grid
-fits-exactly (Ok tt) = (λ e. refl, λ e. refl)
+fits-exactly (Ok _) = (λ e. refl, λ e. refl)
 fits-exactly (Err f) = (λ e. absurd (let z : ◌≡◌ {A = ℕ} 0 1 = cc in omega arith), λ e. absurd (no-refusal f e))
 
 -- a fit refuses with no number above
 abbrev pub Early : ℕ → Result (Unit {0}) Refusal → Type 0
 Early most fit = (why : Refusal) → fit ≡ Err why → refusal_number why ≤ most
 
-pub fit-number : (f why : Refusal) → Err f ≡ Err why → refusal_number f ≡ refusal_number why
+pub fit-number : (f why : Refusal) → ◌≡◌ {A = Result (Unit {0}) Refusal} (Err f) (Err why) → refusal_number f ≡ refusal_number why
 fit-number f why e = let same : f ≡ why = cc in ap refusal_number same
 
 after-fit : (fit : Result (Unit {0}) Refusal) (later : Verdict) → and_then (after_grid fit passes) later ≡ after_grid fit later
 unfolding and_then after_grid
-after-fit (Ok tt) later = refl
+after-fit (Ok _) later = refl
 after-fit (Err f) later = refl
 
 -- the grid or the band fits, and both work tables have their room

@@ -1,6 +1,6 @@
 -- The peak in the reports: half the largest number of shared pairs after any cell, of one set or of a band's two. By the laws of the peak and what a report that
 -- answers a room has seen. Assumes nothing.
-use mathlib.Core.Path.{◌≡◌, subst}
+use mathlib.Core.Path.{◌≡◌, ap, subst}
 use mathlib.Core.List.{List}
 use Prim.Native.Nat.{ℕ, suc, max, ◌+◌, ◌*◌, ◌/◌, ◌≤◌}
 use native.Mathlib.Decide.{dec_le}
@@ -25,6 +25,7 @@ use Rattle.contour.proofs.Theorems.{second-worked}
 use Rattle.contour.proofs.Bands.{report-worked}
 use Rattle.std.specs.Prelude.{Result, Ok, Err}
 use Rattle.error.specs.declared.Refusal.{Refusal}
+use Rattle.scan.specs.declared.FirstReport.{FirstReport}
 
 -- of numbers after each cell, twice h is the largest, and h is at most (dx + 2) / 2
 pub record LargestHalf (dx dy : ℕ) (pairs : ℕ → ℕ → ℕ) (h : ℕ) : Type 0 where
@@ -60,9 +61,9 @@ module _ {dx dy : ℕ} where
           (w.0, w.1, w.2, w.3, omega (arith, w.4, the-peak-is-highest-as-worded U out-U w.0 w.1 w.2 w.3))
 
 -- a first report that answers a room answers the one that was to be given
-first-given : (fit : Result (Unit {0}) Refusal) (S H s h : ℕ) → report_for fit (Ok (record { segments = S; peak = H })) ≡ Ok (record { segments = s; peak = h }) → H ≡ h
+first-given : (fit : Result (Unit {0}) Refusal) (S H s h : ℕ) → report_for fit (record { segments = S; peak = H }) ≡ Ok (record { segments = s; peak = h }) → H ≡ h
 unfolding report_for
-first-given (Ok tt) S H s h e = cc
+first-given (Ok _) S H s h e = let same : ◌≡◌ {A = FirstReport} (record { segments = S; peak = H }) (record { segments = s; peak = h }) = cc in ap (λ (room : FirstReport). room.peak) same
 first-given (Err why) S H s h e = absurd (let z : ◌≡◌ {A = ℕ} 0 1 = cc in omega arith)
 
 -- one level

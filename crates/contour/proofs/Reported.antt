@@ -22,6 +22,7 @@ use Rattle.contour.proofs.Theorems.{drawn_plan, rings_plan, contours_plan, lines
 use Rattle.contour.proofs.Bands.{band_plan, report-worked, isobands-exact-room}
 use Rattle.std.specs.Prelude.{Result, Ok, Err}
 use Rattle.error.specs.declared.Refusal.{Refusal}
+use Rattle.isoringbuilder.specs.declared.SecondReport.{SecondReport}
 
 -- four tables of just the words that the reported numbers come to
 pub record ReportedRoom {Word : Type 0} (dx s r h p : ℕ) (lines links : List ℕ) (points : List Word) (directory : List ℕ) : Type 0 where
@@ -40,7 +41,7 @@ record Told {Word : Type 0} (plan : Plan Word) (dx s r h p : ℕ) : Type 0 where
   directory-is : plan.directory_need ≡ 6 * r
 
 tells : {Word : Type 0} {plan : Plan Word} {dx s r h p S R H P : ℕ} {lines links lines' links' : List ℕ}
-    → Worked Err (Ok (record { segments = S; rings = R; peak = H; points = P })) plan.fit plan.open_need plan.link_need passes lines links (Ok (record { segments = s; rings = r; peak = h; points = p })) lines' links'
+    → Worked {Made = Result SecondReport Refusal} Err (Ok (record { segments = S; rings = R; peak = H; points = P })) plan.fit plan.open_need plan.link_need passes lines links (Ok (record { segments = s; rings = r; peak = h; points = p })) lines' links'
     → plan.rings ≡ R → plan.open_need ≡ open_words dx H → plan.link_need ≡ link_words S → plan.point_need ≡ 2 * P → plan.directory_need ≡ directory_words R → Told plan dx s r h p
 unfolding open_words link_words directory_words record_stride
 tells k er eo el ep ed =

@@ -12,6 +12,7 @@ use Rattle.isoringbuilder.specs.Verdict.{Verdict, refused, passes, after_grid}
 use Rattle.isoringbuilder.specs.Answers.{work_after, output_after}
 use Rattle.contour.proofs.Lowest.{rooms, and_then, answer_by, Answers, Early, ReportExact, BuildExact, report-exact, build-exact, work-passes, passes-exactly}
 use Rattle.std.specs.Prelude.{Result, Ok, Err}
+use Rattle.isoringbuilder.specs.declared.SecondReport.{SecondReport}
 
 -- the verdicts on the work tables, behind the fit, and on the outputs
 abbrev pub work_of : Result (Unit {0}) Refusal → ℕ → ℕ → List ℕ → List ℕ → Verdict
@@ -143,12 +144,20 @@ module _ {Word : Type 0} {plan : Plan Word} {lines links : List ℕ} {points : L
 
 module _ {S R H P s r h p : ℕ} {fit : Result (Unit {0}) Refusal} {open_need link_need : ℕ} {lines links lines' links' : List ℕ} where
   -- where a room is answered the fit passed, and it is the room that was to be given
-  pub room-given : Worked Err (Ok (record { segments = S; rings = R; peak = H; points = P })) fit open_need link_need passes lines links (Ok (record { segments = s; rings = r; peak = h; points = p })) lines' links'
+  pub room-given : Worked {Made = Result SecondReport Refusal} Err (Ok (record { segments = S; rings = R; peak = H; points = P })) fit open_need link_need passes lines links (Ok (record { segments = s; rings = r; peak = h; points = p })) lines' links'
       → (fit ≡ Ok tt) × (S ≡ s) × (R ≡ r) × (H ≡ h) × (P ≡ p)
   unfolding answer_by and_then
   room-given k = by (work_of fit open_need link_need lines links) refl k.answers
     where
-      by : (v : Verdict) → work_of fit open_need link_need lines links ≡ v → Ok (record { segments = s; rings = r; peak = h; points = p }) ≡ answer_by Err (Ok (record { segments = S; rings = R; peak = H; points = P })) (and_then v passes)
+      by : (v : Verdict) → work_of fit open_need link_need lines links ≡ v → ◌≡◌ {A = Result SecondReport Refusal} (Ok (record { segments = s; rings = r; peak = h; points = p })) (answer_by Err (Ok (record { segments = S; rings = R; peak = H; points = P })) (and_then v passes))
           → (fit ≡ Ok tt) × (S ≡ s) × (R ≡ r) × (H ≡ h) × (P ≡ p)
       by (refused why) work e = absurd (let z : ◌≡◌ {A = ℕ} 0 1 = cc in omega arith)
-      by passes work e = (((work-passes fit (length lines) open_need (length links) link_need).1 work).0, cc, cc, cc, cc)
+      by passes work e =
+          let same : ◌≡◌ {A = SecondReport} (record { segments = S; rings = R; peak = H; points = P }) (record { segments = s; rings = r; peak = h; points = p }) = cc in
+          (
+            ((work-passes fit (length lines) open_need (length links) link_need).1 work).0,
+            ap (λ (room : SecondReport). room.segments) same,
+            ap (λ (room : SecondReport). room.rings) same,
+            ap (λ (room : SecondReport). room.peak) same,
+            ap (λ (room : SecondReport). room.points) same,
+          )

@@ -40,9 +40,9 @@ one_answer a b = a ∙ sym b
 -- ---- 1. the first report
 
 -- a first report refuses as the fit does, and where that passes gives its room
-pub report-for-exactly : (fit : Result (Unit {0}) Refusal) (s h : ℕ) → ((why : Refusal) → (fit ≡ Err why) ↔ (report_for fit (Ok (record { segments = s; peak = h })) ≡ Err why)) × ((fit ≡ Ok tt) ↔ (report_for fit (Ok (record { segments = s; peak = h })) ≡ Ok (record { segments = s; peak = h })))
+pub report-for-exactly : (fit : Result (Unit {0}) Refusal) (s h : ℕ) → ((why : Refusal) → (fit ≡ Err why) ↔ (report_for fit (record { segments = s; peak = h }) ≡ Err why)) × ((fit ≡ Ok tt) ↔ (report_for fit (record { segments = s; peak = h }) ≡ Ok (record { segments = s; peak = h })))
 unfolding report_for
-report-for-exactly (Ok tt) s h = (λ why. (λ e. absurd (let z : ◌≡◌ {A = ℕ} 0 1 = cc in omega arith), λ e. absurd (let z : ◌≡◌ {A = ℕ} 0 1 = cc in omega arith)), (λ e. refl, λ e. refl))
+report-for-exactly (Ok _) s h = (λ why. (λ e. absurd (let z : ◌≡◌ {A = ℕ} 0 1 = cc in omega arith), λ e. absurd (let z : ◌≡◌ {A = ℕ} 0 1 = cc in omega arith)), (λ e. refl, λ e. refl))
 report-for-exactly (Err f) s h =
     (λ why. (λ e. cc, λ e. cc), (λ e. absurd (let z : ◌≡◌ {A = ℕ} 0 1 = cc in omega arith), λ e. absurd (let z : ◌≡◌ {A = ℕ} 0 1 = cc in omega arith)))
 
@@ -57,13 +57,17 @@ first-report-exactly values level dx dy =
 -- ---- 2. the second report
 
 -- a second report's answers are told apart
-pub reports : (s r h p : ℕ) → Answers Err (Ok (record { segments = s; rings = r; peak = h; points = p }))
+pub reports : (s r h p : ℕ) → Answers {Made = Result SecondReport Refusal} Err (Ok (record { segments = s; rings = r; peak = h; points = p }))
 reports s r h p = record { apart = λ why e. let z : ◌≡◌ {A = ℕ} 0 1 = cc in omega arith; same = λ f g e. cc }
 
 abbrev pub room_at : List Float → Level → ℕ → ℕ → Result SecondReport Refusal
 room_at values level dx dy =
-    ??second_is.Room (segment_count (above values level dx dy) dx dy) (ring_count (above values level dx dy) dx dy) (peak (above values level dx dy) dx dy)
-    (point_count (segment_count (above values level dx dy) dx dy) (ring_count (above values level dx dy) dx dy))
+    Ok (record {
+      segments = segment_count (above values level dx dy) dx dy;
+      rings = ring_count (above values level dx dy) dx dy;
+      peak = peak (above values level dx dy) dx dy;
+      points = point_count (segment_count (above values level dx dy) dx dy) (ring_count (above values level dx dy) dx dy);
+    })
 
 module _ (values : List Float) (level : Level) (dx dy : ℕ) (lines links : List ℕ) where
   abbrev sheet : Sheet

@@ -18,17 +18,23 @@ ghost use Rattle.scan.specs.Report.{first_report};
 ghost use Rattle.scope.specs.GeoJson.{ring_set_refused};
 ghost use Rattle.smoothing.specs.Values.{placing_of};
 
-use area::{AreaAnswer, Containment};
-use explaining::{PolygonAnswer, RingFate, VertexAnswer};
-use geojson::TextAnswer;
-use isoringbuilder::{Built, SecondReport};
+use area::Containment;
+use deciding::Decision;
+use error::Refusal;
+use explaining::RingFate;
+use isoringbuilder::SecondReport;
 use rows::{Rows, Step};
 use scan::FirstReport;
 use scope::{Level, Rule};
-use smoothing::Placement;
+use smoothing::{Placement, VertexMoves};
 
 // The segments that a grid draws at a level and the peak of its open lines, or the lowest refusal that applies, alone.
-pub fn first_report(values: &[f64], level: Level, dx: usize, dy: usize) -> Result<FirstReport, Refusal>
+pub fn first_report(
+    values: &[f64],
+    level: Level,
+    dx: usize,
+    dy: usize,
+) -> Result<FirstReport, Refusal>
     ensures { result ≡ first_report values.now level dx dy }
 {
     scan::first_report(values, level, dx, dy)
@@ -226,7 +232,12 @@ pub fn geojson_length(points: &[u16], directory: &[u32], rings: u32) -> Result<u
 }
 
 // Writes the text of a ring set, one GeoJSON MultiPolygon, and answers its number of bytes. Bytes past the text stay, and a refusal changes nothing.
-pub fn write_geojson(points: &[u16], directory: &[u32], rings: u32, text: &mut [u8]) -> Result<u64, Refusal>
+pub fn write_geojson(
+    points: &[u16],
+    directory: &[u32],
+    rings: u32,
+    text: &mut [u8],
+) -> Result<u64, Refusal>
     ensures value { result ≡ written_answer points.now directory.now rings text.old }
     ensures text_after { text.new ≡ text_after points.now directory.now rings text.old }
 {
@@ -235,7 +246,12 @@ pub fn write_geojson(points: &[u16], directory: &[u32], rings: u32, text: &mut [
 
 // What becomes of a ring of a contour, by the points of a ring set and not by the words of its records: polygon, hole of a polygon with what that answers, or
 // dropped. Every polygon numbered lower than an owner answers -1.
-pub fn ring_fate(points: &[u16], directory: &[u32], rings: u32, ring: u32) -> Result<RingFate, Refusal>
+pub fn ring_fate(
+    points: &[u16],
+    directory: &[u32],
+    rings: u32,
+    ring: u32,
+) -> Result<RingFate, Refusal>
     ensures { FateFound points.now directory.now rings ring result }
 {
     explaining::ring_fate(points, directory, rings, ring)

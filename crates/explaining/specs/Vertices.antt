@@ -46,7 +46,7 @@ vertex_told values t dx dy ps directory rings i v =
 -- numbers 1 and 2, or what follows
 unfoldable pub on_grid : Result (Unit {0}) Refusal → Result VertexMoves Refusal → Result VertexMoves Refusal
 on_grid (Err why) next = Err why
-on_grid (Ok tt) next = next
+on_grid (Ok _) next = next
 
 unfoldable pub vertex_answer : List Float → Float → ℕ → ℕ → List ℕ → List ℕ → ℕ → ℕ → ℕ → Result VertexMoves Refusal
 vertex_answer values t dx dy ps directory rings i v =

@@ -45,7 +45,7 @@ record Fitting (fit : Result (Unit {0}) Refusal) (m need n need' : ℕ) : Type 0
 fitting : (fit : Result (Unit {0}) Refusal) (m need n need' : ℕ) → after_grid fit (cond (ltb m need) (refused OpenShort) (cond (ltb n need') (refused LinksShort) passes)) ≡ passes → Fitting fit m need n need'
 unfolding after_grid
 fitting (Err why) m need n need' e = absurd (let z : ◌≡◌ {A = ℕ} 0 1 = cc in omega arith)
-fitting (Ok tt) m need n need' e = by (ltb m need) (ltb n need') refl refl e
+fitting (Ok _) m need n need' e = by (ltb m need) (ltb n need') refl refl e
   where
     by : (a b : Bool) → ltb m need ≡ a → ltb n need' ≡ b → cond a (refused OpenShort) (cond b (refused LinksShort) passes) ≡ passes → Fitting (Ok tt) m need n need'
     by true b ea eb k = absurd (let z : ◌≡◌ {A = ℕ} 0 1 = cc in omega arith)

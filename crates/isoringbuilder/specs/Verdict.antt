@@ -14,7 +14,7 @@ pub data Verdict : Type 0 where
 -- numbers 1 and 2, and where the grid fits what comes after them
 unfoldable pub after_grid : Result (Unit {0}) Refusal → Verdict → Verdict
 after_grid (Err why) later = refused why
-after_grid (Ok tt) later = later
+after_grid (Ok _) later = later
 
 -- numbers 1, 2, 5 and 6: the grid, and the lengths of the two work tables
 unfoldable pub work_verdict : Sheet → ℕ → ℕ → ℕ → ℕ → ℕ → Verdict

@@ -13,7 +13,7 @@ room_of A dx dy = record { segments = segment_count A dx dy; peak = peak A dx dy
 
 -- a grid that fits is reported, another refused
 unfoldable pub report_for : Result (Unit {0}) Refusal → FirstReport → Result FirstReport Refusal
-report_for (Ok tt) room = Ok room
+report_for (Ok _) room = Ok room
 report_for (Err refusal) room = Err refusal
 
 unfoldable pub first_report : List Float → Level → ℕ → ℕ → Result FirstReport Refusal

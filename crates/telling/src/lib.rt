@@ -6,9 +6,10 @@ ghost use Rattle.std.specs.Prelude.{◌≡◌};
 ghost use Rattle.telling.specs.Outputs.{vertex_word, fate_status, fate_class, fate_owner, fate_vertex, answer_status, answer_output, answer_vertex, kind_of, fraction_of, vertex_status, x_kind_of, x_fraction_of, y_kind_of, y_fraction_of};
 
 use deciding::Decision;
-use explaining::{PolygonAnswer, RingFate, VertexAnswer};
+use error::Refusal;
+use explaining::RingFate;
 use limits::{HOLE, NO_OWNER, POLYGON};
-use smoothing::Coordinate;
+use smoothing::{Coordinate, VertexMoves};
 
 // The number of a vertex where none decides.
 const NO_VERTEX: u32 = 4294967295;
@@ -38,24 +39,26 @@ pub fn tell_fate(
     ensures vertex_after { vertex.new ≡ fate_vertex vertex.old fate }
 {
     match fate {
-        RingFate::Polygon => {
-            *ring_class = POLYGON;
-            *owner = ring;
-            *vertex = NO_VERTEX;
-            0
-        }
-        RingFate::Hole(polygon, decision) => {
-            *ring_class = HOLE;
-            *owner = polygon;
-            *vertex = vertex_word(decision);
-            0
-        }
-        RingFate::Dropped => {
-            *ring_class = HOLE;
-            *owner = NO_OWNER;
-            *vertex = NO_VERTEX;
-            0
-        }
+        Ok(told) => match told {
+            RingFate::Polygon => {
+                *ring_class = POLYGON;
+                *owner = ring;
+                *vertex = NO_VERTEX;
+                0
+            }
+            RingFate::Hole(polygon, decision) => {
+                *ring_class = HOLE;
+                *owner = polygon;
+                *vertex = vertex_word(decision);
+                0
+            }
+            RingFate::Dropped => {
+                *ring_class = HOLE;
+                *owner = NO_OWNER;
+                *vertex = NO_VERTEX;
+                0
+            }
+        },
         Err(refusal) => error::number(refusal),
     }
 }

@@ -3,11 +3,11 @@ use mathlib.Core.Path.{refl}
 use Rattle.telling.specs.Outputs.{vertex_status, x_kind_of, x_fraction_of, y_kind_of, y_fraction_of}
 use Rattle.telling.proofs.tell_vertex.Goals as goal
 
-pub returns-in-Moves : goal.returns-in-Moves
+pub returns-in-Ok : goal.returns-in-Ok
 unfolding vertex_status x_kind_of x_fraction_of y_kind_of y_fraction_of
-returns-in-Moves c =
-    rw c.in-Moves.is (record { value = refl; x_kind_after = c.tell_coordinate.ensures.kind_after; x_fraction_after = c.tell_coordinate.ensures.fraction_after; y_kind_after = c.tell_coordinate-in-Moves.ensures.kind_after; y_fraction_after = c.tell_coordinate-in-Moves.ensures.fraction_after })
+returns-in-Ok c =
+    rw c.in-Ok.is (record { value = refl; x_kind_after = c.tell_coordinate.ensures.kind_after; x_fraction_after = c.tell_coordinate.ensures.fraction_after; y_kind_after = c.tell_coordinate-in-Ok.ensures.kind_after; y_fraction_after = c.tell_coordinate-in-Ok.ensures.fraction_after })
 
-pub returns-in-Refused : goal.returns-in-Refused
+pub returns-in-Err : goal.returns-in-Err
 unfolding vertex_status x_kind_of x_fraction_of y_kind_of y_fraction_of
-returns-in-Refused c = rw c.in-Refused.is (record { value = c.number.ensures; x_kind_after = refl; x_fraction_after = refl; y_kind_after = refl; y_fraction_after = refl })
+returns-in-Err c = rw c.in-Err.is (record { value = c.number.ensures; x_kind_after = refl; x_fraction_after = refl; y_kind_after = refl; y_fraction_after = refl })
