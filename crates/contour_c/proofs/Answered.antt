@@ -1,5 +1,4 @@
--- From what the library answers to what an entry for C returns and leaves: a law for each way that an answer can be made; and that any two results
--- of an entry coincide. Assumes nothing.
+-- Any two results of an entry for C coincide. Assumes nothing.
 use mathlib.Core.Path.{◌≡◌, sym, ◌∙◌, ap}
 use mathlib.Core.Bool.{Bool}
 use mathlib.Core.List.{List}
@@ -20,54 +19,6 @@ use Rattle.contour.proofs.Theorems.{one_answer, one-second-report, one-build, on
 use Rattle.contour.proofs.Bands.{one-band-report, one-isobands}
 use Rattle.contour_c.specs.Rings.{first_status, first_segments, first_peak, second_status, second_segments, second_rings, second_peak, second_points, built_status, built_rings, SecondEntry, RingsEntry}
 use Rattle.std.specs.Prelude.{Result, Ok, Err}
-
-pub first-given : (s h old old' : ℕ) {found answer : Result FirstReport Refusal} → found ≡ Ok (record { segments = s; peak = h }) → found ≡ answer → (0 ≡ first_status answer) × ((s ≡ first_segments old answer) × (h ≡ first_peak old' answer))
-unfolding first_status first_segments first_peak
-first-given s h old old' is e = let is-answer = sym is ∙ e in (ap first_status is-answer, (ap (first_segments old) is-answer, ap (first_peak old') is-answer))
-
-pub first-kept : (why : Refusal) (status old old' : ℕ) {found answer : Result FirstReport Refusal} → found ≡ Err why → found ≡ answer → status ≡ refusal_number why
-    → (status ≡ first_status answer) × ((old ≡ first_segments old answer) × (old' ≡ first_peak old' answer))
-unfolding first_status first_segments first_peak
-first-kept why status old old' is e k = let is-answer = sym is ∙ e in (k ∙ ap first_status is-answer, (ap (first_segments old) is-answer, ap (first_peak old') is-answer))
-
--- a second report, and a build, of which the library ensures anything
-module _ {Reported : Result SecondReport Refusal → List ℕ → List ℕ → Type 0} {lines' links' : List ℕ} where
-  pub second-given : (s r h p segments rings peak points : ℕ) (answer : Result SecondReport Refusal) → answer ≡ Ok (record { segments = s; rings = r; peak = h; points = p }) → Reported answer lines' links' → SecondEntry Reported segments rings peak points 0 lines' links' s r h p
-  unfolding second_status second_segments second_rings second_peak second_points
-  second-given s r h p segments rings peak points answer e k = record {
-    answer = answer;
-    reported = k;
-    status-is = ap second_status (sym e);
-    segments-are = ap (second_segments segments) (sym e);
-    rings-are = ap (second_rings rings) (sym e);
-    peak-is = ap (second_peak peak) (sym e);
-    points-are = ap (second_points points) (sym e);
-  }
-
-  pub second-kept : (why : Refusal) (status segments rings peak points : ℕ) (answer : Result SecondReport Refusal) → answer ≡ Err why → status ≡ refusal_number why → Reported answer lines' links'
-      → SecondEntry Reported segments rings peak points status lines' links' segments rings peak points
-  unfolding second_status second_segments second_rings second_peak second_points
-  second-kept why status segments rings peak points answer e n k = record {
-    answer = answer;
-    reported = k;
-    status-is = n ∙ ap second_status (sym e);
-    segments-are = ap (second_segments segments) (sym e);
-    rings-are = ap (second_rings rings) (sym e);
-    peak-is = ap (second_peak peak) (sym e);
-    points-are = ap (second_points points) (sym e);
-  }
-
-module _ {Word : Type 0} {BuiltAs : Result ℕ Refusal → List ℕ → List ℕ → List Word → List ℕ → Type 0} {lines' links' : List ℕ} {points' : List Word} {directory' : List ℕ} where
-  pub rings-given : (r rings : ℕ) (answer : Result ℕ Refusal) → answer ≡ Ok r → BuiltAs answer lines' links' points' directory' → RingsEntry BuiltAs rings 0 lines' links' points' directory' r
-  unfolding built_status built_rings
-  rings-given r rings answer e k =
-      record { answer = answer; built = k; status-is = ap built_status (sym e); rings-are = ap (built_rings rings) (sym e) }
-
-  pub rings-kept : (why : Refusal) (status rings : ℕ) (answer : Result ℕ Refusal) → answer ≡ Err why → status ≡ refusal_number why → BuiltAs answer lines' links' points' directory'
-      → RingsEntry BuiltAs rings status lines' links' points' directory' rings
-  unfolding built_status built_rings
-  rings-kept why status rings answer e n k =
-      record { answer = answer; built = k; status-is = n ∙ ap built_status (sym e); rings-are = ap (built_rings rings) (sym e) }
 
 -- ---- one result
 

@@ -15,6 +15,7 @@ use Rattle.rows.specs.declared.Rows.{Rows}
 use Rattle.rows.specs.declared.Step.{Step}
 use Rattle.rowstate.specs.Words.{state_in, state_out}
 use Rattle.rowstate.proofs.NextCall.{Stored, stored-is-read}
+use Rattle.contour_c.specs.Told.{told_status, told_output}
 use Rattle.contour_c.specs.Rings.{built_status, built_rings}
 use Rattle.contour_c.specs.ByRow.{state_words, RowEntry}
 use Rattle.std.specs.Prelude.{Result, Ok, Err}
@@ -23,11 +24,11 @@ use Rattle.std.specs.Prelude.{Result, Ok, Err}
 
 module _ (words : List ℕ) (s : Rows) (rings : ℕ) {answer : Result ℕ Refusal} where
   pub call-taken : (n : ℕ) {words' : List ℕ} → answer ≡ Ok n → words' ≡ state_out s words → (0 ≡ built_status answer) × ((words' ≡ state_words words s answer) × (n ≡ built_rings rings answer))
-  unfolding built_status state_words built_rings
+  unfolding told_status state_words told_output
   call-taken n is stored = (ap built_status (sym is), (stored ∙ ap (state_words words s) (sym is), ap (built_rings rings) (sym is)))
 
   pub call-refused : (why : Refusal) {status : ℕ} → answer ≡ Err why → status ≡ refusal_number why → (status ≡ built_status answer) × ((words ≡ state_words words s answer) × (rings ≡ built_rings rings answer))
-  unfolding built_status state_words built_rings
+  unfolding told_status state_words told_output
   call-refused why is number = (number ∙ ap built_status (sym is), (ap (state_words words s) (sym is), ap (built_rings rings) (sym is)))
 
 -- ---- by the step that a call comes to

@@ -1,5 +1,4 @@
--- From what the check, the length and the writer of the library answer to what their entries for C return and leave; and that any two results of such an entry
--- coincide. Assumes nothing.
+-- Any two results of the entries for the check, the length and the writer coincide. Assumes nothing.
 use mathlib.Core.Path.{◌≡◌, sym, ◌∙◌, ap}
 use mathlib.Core.List.{List}
 use Prim.Native.Nat.{ℕ}
@@ -10,17 +9,6 @@ use Rattle.geojson.specs.Written.{length_answer, written_answer, text_after}
 use Rattle.contour.proofs.Theorems.{one_answer}
 use Rattle.contour_c.specs.Texts.{check_status, text_status, text_length}
 use Rattle.std.specs.Prelude.{Result, Ok, Err}
-
-pub text-given : (n old : ℕ) {found answer : Result ℕ Refusal} → found ≡ Ok n → found ≡ answer → (0 ≡ text_status answer) × (n ≡ text_length old answer)
-unfolding text_status text_length
-text-given n old is e = let is-answer = sym is ∙ e in (ap text_status is-answer, ap (text_length old) is-answer)
-
-pub text-kept : (why : Refusal) (status old : ℕ) {found answer : Result ℕ Refusal} → found ≡ Err why → found ≡ answer → status ≡ refusal_number why
-    → (status ≡ text_status answer) × (old ≡ text_length old answer)
-unfolding text_status text_length
-text-kept why status old is e k = let is-answer = sym is ∙ e in (k ∙ ap text_status is-answer, ap (text_length old) is-answer)
-
--- ---- one result
 
 -- two results that meet the contract of contour_check, contour_geojson_length or contour_geojson on the same entry are equal
 module _ (ps directory : List ℕ) (rings : ℕ) where

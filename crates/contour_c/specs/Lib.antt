@@ -1,4 +1,5 @@
 -- What the entries for C return, as functions of what they are passed.
+pub mod Told
 pub mod ByRow
 pub mod Entries
 pub mod Rings

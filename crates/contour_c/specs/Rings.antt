@@ -3,50 +3,49 @@ use Rattle.std.specs.Prelude.{◌≡◌, Bool, not, List, ℕ, eqb, Result, Ok, 
 use Rattle.error.specs.Number.{refusal_number}
 use Rattle.scan.specs.declared.FirstReport.{FirstReport}
 use Rattle.isoringbuilder.specs.declared.SecondReport.{SecondReport}
+use Rattle.contour_c.specs.Told.{told_status, told_output}
 use Rattle.error.specs.declared.Refusal.{Refusal}
 
 -- a first report: 0 or the refusal's number, and each output set or as it was
 unfoldable pub first_status : Result FirstReport Refusal → ℕ
-first_status (Ok (record { segments = s; peak = h })) = 0
+first_status (Ok report) = 0
 first_status (Err why) = refusal_number why
 
 unfoldable pub first_segments : ℕ → Result FirstReport Refusal → ℕ
-first_segments old (Ok (record { segments = s; peak = h })) = s
+first_segments old (Ok report) = report.segments
 first_segments old (Err why) = old
 
 unfoldable pub first_peak : ℕ → Result FirstReport Refusal → ℕ
-first_peak old (Ok (record { segments = s; peak = h })) = h
+first_peak old (Ok report) = report.peak
 first_peak old (Err why) = old
 
 -- a second report, likewise
 unfoldable pub second_status : Result SecondReport Refusal → ℕ
-second_status (Ok (record { segments = s; rings = r; peak = h; points = p })) = 0
+second_status (Ok report) = 0
 second_status (Err why) = refusal_number why
 
 unfoldable pub second_segments : ℕ → Result SecondReport Refusal → ℕ
-second_segments old (Ok (record { segments = s; rings = r; peak = h; points = p })) = s
+second_segments old (Ok report) = report.segments
 second_segments old (Err why) = old
 
 unfoldable pub second_rings : ℕ → Result SecondReport Refusal → ℕ
-second_rings old (Ok (record { segments = s; rings = r; peak = h; points = p })) = r
+second_rings old (Ok report) = report.rings
 second_rings old (Err why) = old
 
 unfoldable pub second_peak : ℕ → Result SecondReport Refusal → ℕ
-second_peak old (Ok (record { segments = s; rings = r; peak = h; points = p })) = h
+second_peak old (Ok report) = report.peak
 second_peak old (Err why) = old
 
 unfoldable pub second_points : ℕ → Result SecondReport Refusal → ℕ
-second_points old (Ok (record { segments = s; rings = r; peak = h; points = p })) = p
+second_points old (Ok report) = report.points
 second_points old (Err why) = old
 
--- a build, likewise
-unfoldable pub built_status : Result ℕ Refusal → ℕ
-built_status (Ok r) = 0
-built_status (Err why) = refusal_number why
+-- a build, likewise: its status and its number of rings
+abbrev pub built_status : Result ℕ Refusal → ℕ
+built_status answer = told_status answer
 
-unfoldable pub built_rings : ℕ → Result ℕ Refusal → ℕ
-built_rings old (Ok r) = r
-built_rings old (Err why) = old
+abbrev pub built_rings : ℕ → Result ℕ Refusal → ℕ
+built_rings old answer = told_output old answer
 
 -- whether smoothing is asked: 0 is no, and any other number yes
 unfoldable pub asked : ℕ → Bool

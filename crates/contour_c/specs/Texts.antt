@@ -4,16 +4,15 @@ use Rattle.std.specs.Prelude.{Bool, cond, ℕ, Result, Ok, Err}
 use Rattle.error.specs.Number.{refusal_number}
 use Rattle.error.specs.declared.Refusal.TheVariants.{BadRingSet}
 use Rattle.error.specs.declared.Refusal.{Refusal}
+use Rattle.contour_c.specs.Told.{told_status, told_output}
 
 -- 0, or number 9
 unfoldable pub check_status : Bool → ℕ
 check_status refused = cond refused (refusal_number BadRingSet) 0
 
 -- 0 or the refusal's number, and the length set or as it was
-unfoldable pub text_status : Result ℕ Refusal → ℕ
-text_status (Ok n) = 0
-text_status (Err why) = refusal_number why
+abbrev pub text_status : Result ℕ Refusal → ℕ
+text_status answer = told_status answer
 
-unfoldable pub text_length : ℕ → Result ℕ Refusal → ℕ
-text_length old (Ok n) = n
-text_length old (Err why) = old
+abbrev pub text_length : ℕ → Result ℕ Refusal → ℕ
+text_length old answer = told_output old answer

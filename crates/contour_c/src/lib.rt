@@ -19,21 +19,80 @@ ghost use Rattle.telling.specs.Outputs.{answer_status, answer_output, answer_ver
 ghost use Rattle.rows.specs.Called.{begun_state, begun_answer, row_called, end_called};
 ghost use Rattle.rowstate.specs.Words.{state_in};
 ghost use Rattle.contour_c.specs.ByRow.{state_words, RowEntry};
-ghost use Rattle.contour_c.specs.Entries.{status_of, area_output, contains_output};
-ghost use Rattle.contour_c.specs.Rings.{first_status, first_segments, first_peak, built_status, built_rings, SecondEntry, RingsEntry, asked};
+ghost use Rattle.contour_c.specs.Entries.{status_of, area_output, place_number, contains_output};
+ghost use Rattle.contour_c.specs.Told.{told_status, told_output};
+ghost use Rattle.contour_c.specs.Rings.{first_status, first_segments, first_peak, second_status, second_segments, second_rings, second_peak, second_points, built_status, built_rings, SecondEntry, RingsEntry, asked};
 ghost use Rattle.contour_c.specs.Texts.{check_status, text_status, text_length};
 ghost use Rattle.contour_c.specs.Why.{FateEntry, VertexEntry};
 
-use area::{AreaAnswer, Containment};
+use area::Containment;
 use cells::{level_of, rule_of};
 use error::Refusal;
-use geojson::TextAnswer;
-use isoringbuilder::{Built, SecondReport};
+use isoringbuilder::SecondReport;
 use rows::Step;
 use rowstate::{STATE_WORDS, state_of, store_state};
 use scan::FirstReport;
 use smoothing::Placement;
 use telling::{tell_answer, tell_fate, tell_vertex};
+
+// Sets an output where a call has succeeded, and leaves it as it was where one was refused. Answers the status: 0, or the refusal's number.
+#[tactic(auto, unfolding(crate::specs::Told::told_status, crate::specs::Told::told_output))]
+fn told<T: Copy>(answer: Result<T, Refusal>, output: &mut T) -> u32
+    ensures value { result ≡ told_status answer }
+    ensures output_after { output.new ≡ told_output output.old answer }
+{
+    match answer {
+        Ok(value) => {
+            *output = value;
+            0
+        }
+        Err(refusal) => error::number(refusal),
+    }
+}
+
+// The same of a first report, with an output for each of its numbers.
+#[tactic(auto, unfolding(crate::specs::Rings::first_status, crate::specs::Rings::first_segments, crate::specs::Rings::first_peak))]
+fn told_first(answer: Result<FirstReport, Refusal>, segments: &mut u32, peak: &mut u32) -> u32
+    ensures value { result ≡ first_status answer }
+    ensures segments_after { segments.new ≡ first_segments segments.old answer }
+    ensures peak_after { peak.new ≡ first_peak peak.old answer }
+{
+    match answer {
+        Ok(report) => {
+            *segments = report.segments;
+            *peak = report.peak;
+            0
+        }
+        Err(refusal) => error::number(refusal),
+    }
+}
+
+// The same of a second report.
+#[tactic(auto, unfolding(crate::specs::Rings::second_status, crate::specs::Rings::second_segments, crate::specs::Rings::second_rings, crate::specs::Rings::second_peak, crate::specs::Rings::second_points))]
+fn told_second(
+    answer: Result<SecondReport, Refusal>,
+    segments: &mut u32,
+    rings: &mut u32,
+    peak: &mut u32,
+    points: &mut u32,
+) -> u32
+    ensures value { result ≡ second_status answer }
+    ensures segments_after { segments.new ≡ second_segments segments.old answer }
+    ensures rings_after { rings.new ≡ second_rings rings.old answer }
+    ensures peak_after { peak.new ≡ second_peak peak.old answer }
+    ensures points_after { points.new ≡ second_points points.old answer }
+{
+    match answer {
+        Ok(report) => {
+            *segments = report.segments;
+            *rings = report.rings;
+            *peak = report.peak;
+            *points = report.points;
+            0
+        }
+        Err(refusal) => error::number(refusal),
+    }
+}
 
 // The area of a ring of words X, Y, X, Y, and so on: the crate's undivided one times 4, above 0 for a polygon.
 #[unsafe(no_mangle)]
@@ -41,12 +100,18 @@ pub extern "C" fn contour_area(ring: &[u16], area: &mut i64) -> u32
     ensures value { result ≡ status_of (area_refused ring.now) }
     ensures area_after { area.new ≡ area_output ring.now area.old }
 {
-    match area::area(ring) {
-        Ok(found) => {
-            *area = found;
-            0
-        }
-        Err(refusal) => error::number(refusal),
+    let found = area::area(ring);
+    told(found, area)
+}
+
+// The number of a place: 1 for inside, 0 for the boundary, -1 for outside.
+fn place_number(place: Containment) -> i32
+    ensures { result ≡ place_number place }
+{
+    match place {
+        Containment::Inside => 1,
+        Containment::Boundary => 0,
+        Containment::Outside => -1,
     }
 }
 
@@ -57,16 +122,8 @@ pub extern "C" fn contour_contains(outer: &[u16], tested: &[u16], answer: &mut i
     ensures answer_after { answer.new ≡ contains_output outer.now tested.now answer.old }
 {
     match area::contains(outer, tested) {
-        Containment::Inside => {
-            *answer = 1;
-            0
-        }
-        Containment::Boundary => {
-            *answer = 0;
-            0
-        }
-        Containment::Outside => {
-            *answer = -1;
+        Ok(place) => {
+            *answer = place_number(place);
             0
         }
         Err(refusal) => error::number(refusal),
@@ -89,17 +146,8 @@ pub extern "C" fn contour_first_report(
     ensures peak_after { peak.new ≡ first_peak peak.old (first_report values.now (level_of threshold rule) dx dy) }
 {
     let level = level_of(threshold, rule);
-    match scan::first_report(values, level, dx, dy) {
-        FirstReport::Room {
-            segments: drawn,
-            peak: highest,
-        } => {
-            *segments = drawn;
-            *peak = highest;
-            0
-        }
-        Err(refusal) => error::number(refusal),
-    }
+    let report = scan::first_report(values, level, dx, dy);
+    told_first(report, segments, peak)
 }
 
 // The segments, the rings, the peak of open lines and the points of a grid at a threshold under a rule, over both work tables.
@@ -122,21 +170,8 @@ pub extern "C" fn contour_second_report(
         lines.new links.new segments.new rings.new peak.new points.new }
 {
     let level = level_of(threshold, rule);
-    match isoringbuilder::second_report(values, level, dx, dy, lines, links) {
-        SecondReport::Room {
-            segments: drawn,
-            rings: closed,
-            peak: highest,
-            points: placed,
-        } => {
-            *segments = drawn;
-            *rings = closed;
-            *peak = highest;
-            *points = placed;
-            0
-        }
-        Err(refusal) => error::number(refusal),
-    }
+    let report = isoringbuilder::second_report(values, level, dx, dy, lines, links);
+    told_second(report, segments, rings, peak, points)
 }
 
 // Every ring of a grid at a threshold under a rule, in the crate's order, as packed points and directory records.
@@ -157,13 +192,10 @@ pub extern "C" fn contour_rings(
         lines.new links.new points.new directory.new rings.new }
 {
     let level = level_of(threshold, rule);
-    match isoringbuilder::contour_rings(values, level, dx, dy, lines, links, points, directory) {
-        Ok(count) => {
-            *rings = count;
-            0
-        }
-        Err(refusal) => error::number(refusal),
-    }
+    let built = isoringbuilder::contour_rings(
+        values, level, dx, dy, lines, links, points, directory,
+    );
+    told(built, rings)
 }
 
 // The status of a call for a terrain that comes row by row. Where the call is taken its state is stored in the state's words, and the number of its rings is set.
@@ -262,29 +294,25 @@ pub extern "C" fn contour_lines(
         lines.new links.new points.new directory.new rings.new }
 {
     let level = level_of(threshold, rule);
-    match linebuilder::contour_lines(
+    let placement = Placement {
+        x_origin,
+        y_origin,
+        x_step,
+        y_step,
+    };
+    let built = linebuilder::contour_lines(
         values,
         level,
         dx,
         dy,
         smooth != 0,
-        Placement {
-            x_origin,
-            y_origin,
-            x_step,
-            y_step,
-        },
+        placement,
         lines,
         links,
         points,
         directory,
-    ) {
-        Ok(count) => {
-            *rings = count;
-            0
-        }
-        Err(refusal) => error::number(refusal),
-    }
+    );
+    told(built, rings)
 }
 
 // Every ring of a grid at a threshold under a rule, as contour_rings gives them, with its class and its owner in its directory record.
@@ -305,13 +333,8 @@ pub extern "C" fn contour_contours(
         lines.new links.new points.new directory.new rings.new }
 {
     let level = level_of(threshold, rule);
-    match contourbuilder::contours(values, level, dx, dy, lines, links, points, directory) {
-        Ok(count) => {
-            *rings = count;
-            0
-        }
-        Err(refusal) => error::number(refusal),
-    }
+    let built = contourbuilder::contours(values, level, dx, dy, lines, links, points, directory);
+    told(built, rings)
 }
 
 // The larger segment count and the larger peak of the thresholds k and k + 1 of a list under a rule, with no table at all.
@@ -330,17 +353,8 @@ pub extern "C" fn contour_band_first_report(
     ensures segments_after { segments.new ≡ first_segments segments.old (band_first_report values.now thresholds.now (rule_of rule) k dx dy) }
     ensures peak_after { peak.new ≡ first_peak peak.old (band_first_report values.now thresholds.now (rule_of rule) k dx dy) }
 {
-    match bands::band_first_report(values, thresholds, rule_of(rule), k, dx, dy) {
-        FirstReport::Room {
-            segments: drawn,
-            peak: highest,
-        } => {
-            *segments = drawn;
-            *peak = highest;
-            0
-        }
-        Err(refusal) => error::number(refusal),
-    }
+    let report = bands::band_first_report(values, thresholds, rule_of(rule), k, dx, dy);
+    told_first(report, segments, peak)
 }
 
 // What a band of the thresholds k and k + 1 of a list under a rule needs, over both work tables: the larger segment count, the rings of both sets, the larger
@@ -364,21 +378,17 @@ pub extern "C" fn contour_band_second_report(
         segments.old rings.old peak.old points.old result
         lines.new links.new segments.new rings.new peak.new points.new }
 {
-    match bands::band_second_report(values, thresholds, rule_of(rule), k, dx, dy, lines, links) {
-        SecondReport::Room {
-            segments: drawn,
-            rings: closed,
-            peak: highest,
-            points: total,
-        } => {
-            *segments = drawn;
-            *rings = closed;
-            *peak = highest;
-            *points = total;
-            0
-        }
-        Err(refusal) => error::number(refusal),
-    }
+    let report = bands::band_second_report(
+        values,
+        thresholds,
+        rule_of(rule),
+        k,
+        dx,
+        dy,
+        lines,
+        links,
+    );
+    told_second(report, segments, rings, peak, points)
 }
 
 // Every ring of the band of thresholds k and k + 1 of a list under a rule, with its class and its owner: points of the lower set first, and records in the
@@ -400,7 +410,7 @@ pub extern "C" fn contour_isobands(
     ensures { RingsEntry (BandBuilt values.now thresholds.now (rule_of rule) k dx dy lines.old links.old points.old directory.old) rings.old result
         lines.new links.new points.new directory.new rings.new }
 {
-    match contourbuilder::isobands(
+    let built = contourbuilder::isobands(
         values,
         thresholds,
         rule_of(rule),
@@ -411,13 +421,8 @@ pub extern "C" fn contour_isobands(
         links,
         points,
         directory,
-    ) {
-        Ok(count) => {
-            *rings = count;
-            0
-        }
-        Err(refusal) => error::number(refusal),
-    }
+    );
+    told(built, rings)
 }
 
 // Whether the writer takes a ring set: 0, or 9.
@@ -442,13 +447,8 @@ pub extern "C" fn contour_geojson_length(
     ensures value { result ≡ text_status (length_answer points.now directory.now rings) }
     ensures length_after { length.new ≡ text_length length.old (length_answer points.now directory.now rings) }
 {
-    match geojson::geojson_length(points, directory, rings) {
-        Ok(needed) => {
-            *length = needed;
-            0
-        }
-        Err(refusal) => error::number(refusal),
-    }
+    let needed = geojson::geojson_length(points, directory, rings);
+    told(needed, length)
 }
 
 // The text of a ring set, one GeoJSON MultiPolygon, and its number of bytes. Bytes past the text stay.
@@ -464,13 +464,8 @@ pub extern "C" fn contour_geojson(
     ensures text_after { text.new ≡ text_after points.now directory.now rings text.old }
     ensures length_after { length.new ≡ text_length length.old (written_answer points.now directory.now rings text.old) }
 {
-    match geojson::write_geojson(points, directory, rings, text) {
-        Ok(bytes) => {
-            *length = bytes;
-            0
-        }
-        Err(refusal) => error::number(refusal),
-    }
+    let written = geojson::write_geojson(points, directory, rings, text);
+    told(written, length)
 }
 
 // What becomes of a ring of a contour, by the points of a ring set: its class and its owner as a record has them, and the vertex that decided it for its owner.

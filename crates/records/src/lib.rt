@@ -17,8 +17,7 @@ use contour::{
     contour_lines, contour_rings, contours, geojson_length, isobands, ring_set_faulty,
     write_geojson,
 };
-use geojson::TextAnswer;
-use isoringbuilder::Built;
+use error::Refusal;
 use limits::RECORD_STRIDE;
 pub use ringrecord::{Fate, RingRecord};
 use ringrecord::{records_from_words, words_from_records};

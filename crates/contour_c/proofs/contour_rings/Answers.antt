@@ -1,11 +1,6 @@
--- `contour_c::contour_rings` meets its contract: what `contour_rings` of `isoringbuilder` ensures and the arm's variant give the status and the output. Assumes nothing.
-use Rattle.contour_c.proofs.Answered.{rings-given, rings-kept}
+-- `contour_c::contour_rings` meets its contract: what the library ensures gives the status and the output. Assumes nothing.
 use Rattle.contour_c.proofs.contour_rings.Goals as goal
 
-pub returns-in-Rings : goal.returns-in-Rings
-returns-in-Rings c =
-    rw (← c.level_of-level.ensures) (rings-given _ _ _ c.in-Rings.is c.contour_rings.ensures)
-
-pub returns-in-Refused : goal.returns-in-Refused
-returns-in-Refused c =
-    rw (← c.level_of-level.ensures) (rings-kept _ _ _ _ c.in-Refused.is c.number.ensures c.contour_rings.ensures)
+pub returns : goal.returns
+returns c =
+    rw (← c.level_of-level.ensures) (record { answer = c.contour_rings-built.result; built = c.contour_rings-built.ensures; status-is = c.told.ensures.value; rings-are = c.told.ensures.output_after })

@@ -1,11 +1,16 @@
--- `contour_c::contour_second_report` meets its contract: what `second_report` ensures and the arm's variant give the status and the outputs. Assumes nothing.
-use Rattle.contour_c.proofs.Answered.{second-given, second-kept}
+-- `contour_c::contour_second_report` meets its contract: what the library ensures gives the status and the outputs. Assumes nothing.
 use Rattle.contour_c.proofs.contour_second_report.Goals as goal
 
-pub returns-in-Room : goal.returns-in-Room
-returns-in-Room c =
-    rw (← c.level_of-level.ensures) (second-given _ _ _ _ _ _ _ _ _ c.in-Room.is c.second_report.ensures)
-
-pub returns-in-Refused : goal.returns-in-Refused
-returns-in-Refused c =
-    rw (← c.level_of-level.ensures) (second-kept _ _ _ _ _ _ _ c.in-Refused.is c.number.ensures c.second_report.ensures)
+pub returns : goal.returns
+returns c =
+    let told = c.told_second.ensures in
+    rw (← c.level_of-level.ensures)
+    (record {
+      answer = c.second_report-report.result;
+      reported = c.second_report-report.ensures;
+      status-is = told.value;
+      segments-are = told.segments_after;
+      rings-are = told.rings_after;
+      peak-is = told.peak_after;
+      points-are = told.points_after;
+    })

@@ -3,12 +3,12 @@
 use Rattle.contour_c.proofs.Called.{call-taken, call-refused}
 use Rattle.contour_c.proofs.settle.Goals as goal
 
-pub returns-in-Rings : goal.returns-in-Rings
-returns-in-Rings c =
-    let told = call-taken c.args.state.now c.args.step.state c.args.rings.now _ c.in-Rings.is c.store_state.ensures in
+pub returns-in-Ok : goal.returns-in-Ok
+returns-in-Ok c =
+    let told = call-taken c.args.state.now c.args.step.state c.args.rings.now _ c.in-Ok.is c.store_state.ensures in
     record { value = told.0; state_after = told.1.0; rings_after = told.1.1 }
 
-pub returns-in-Refused : goal.returns-in-Refused
-returns-in-Refused c =
-    let told = call-refused c.args.state.now c.args.step.state c.args.rings.now _ c.in-Refused.is c.number.ensures in
+pub returns-in-Err : goal.returns-in-Err
+returns-in-Err c =
+    let told = call-refused c.args.state.now c.args.step.state c.args.rings.now _ c.in-Err.is c.number.ensures in
     record { value = told.0; state_after = told.1.0; rings_after = told.1.1 }
