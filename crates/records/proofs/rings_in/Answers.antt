@@ -2,10 +2,10 @@
 use Rattle.records.specs.Over.{rings_in}
 use Rattle.records.proofs.rings_in.Goals as goal
 
-pub returns-in-Rings : goal.returns-in-Rings
+pub returns-in-Ok : goal.returns-in-Ok
 unfolding rings_in
-returns-in-Rings c = rw c.in-Rings.is
+returns-in-Ok c = rw c.in-Ok.is
 
-pub returns-in-Refused : goal.returns-in-Refused
+pub returns-in-Err : goal.returns-in-Err
 unfolding rings_in
-returns-in-Refused c = rw c.in-Refused.is
+returns-in-Err c = rw c.in-Err.is
