@@ -10,8 +10,7 @@ ghost use Rattle.contour_geojson.specs.Drawing.{text_room, Small, Roomy, Writabl
 
 use contourbuilder::contours;
 use error::Refusal;
-use geojson::{TextAnswer, write_geojson};
-use isoringbuilder::Built;
+use geojson::write_geojson;
 use reading::{Reading, VALUES, read_input};
 use scope::{Level, Rule};
 use std::io;

@@ -5,12 +5,12 @@ use Rattle.contour_geojson.proofs.write_over.Goals as goal
 
 pub write_rings-requires : goal.write_rings-requires
 write_rings-requires c =
-    set-is-writable _ _ _ _ c.requires.0 c.requires.1 c.contours.ensures c.in-Rings.is
+    set-is-writable _ _ _ _ c.requires.0 c.requires.1 c.contours.ensures c.in-Ok.is
 
-pub returns-in-Refused : goal.returns-in-Refused
-returns-in-Refused c =
-    no-refusal _ _ _ _ c.requires.0 c.requires.1 c.contours.ensures c.in-Refused.is
+pub returns-in-Err : goal.returns-in-Err
+returns-in-Err c =
+    no-refusal _ _ _ _ c.requires.0 c.requires.1 c.contours.ensures c.in-Err.is
 
-pub returns-in-Rings : goal.returns-in-Rings
-returns-in-Rings c =
-    contour-stands _ _ _ _ c.requires.0 c.requires.1 c.contours.ensures c.in-Rings.is c.write_rings.ensures
+pub returns-in-Ok : goal.returns-in-Ok
+returns-in-Ok c =
+    contour-stands _ _ _ _ c.requires.0 c.requires.1 c.contours.ensures c.in-Ok.is c.write_rings.ensures

@@ -2,12 +2,12 @@
 use Rattle.contour_geojson.proofs.Steps.{never-refused, set-stands}
 use Rattle.contour_geojson.proofs.write_rings.Goals as goal
 
-pub returns-in-Refused : goal.returns-in-Refused
-returns-in-Refused c =
+pub returns-in-Err : goal.returns-in-Err
+returns-in-Err c =
     let called = c.write_geojson in
-    never-refused c.requires called.ensures.value called.ensures.text_after c.in-Refused.is
+    never-refused c.requires called.ensures.value called.ensures.text_after c.in-Err.is
 
-pub returns-in-Bytes : goal.returns-in-Bytes
-returns-in-Bytes c =
+pub returns-in-Ok : goal.returns-in-Ok
+returns-in-Ok c =
     let called = c.write_geojson in
-    set-stands c.requires called.ensures.value called.ensures.text_after c.in-Bytes.is
+    set-stands c.requires called.ensures.value called.ensures.text_after c.in-Ok.is
