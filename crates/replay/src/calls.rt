@@ -9,7 +9,8 @@ use crate::tables::{
 };
 use bands::{band_first_report, band_second_report};
 use contourbuilder::{contours, isobands};
-use isoringbuilder::{Built, SecondReport, contour_rings, second_report};
+use error::Refusal;
+use isoringbuilder::{SecondReport, contour_rings, second_report};
 use linebuilder::contour_lines;
 use scan::{FirstReport, first_report};
 use scope::Level;
@@ -42,7 +43,12 @@ fn report_band_first(case: Case, grid: &[f64], thresholds: &[f64]) -> Result<Fir
 }
 
 // The second report of one threshold.
-fn report_second(case: Case, grid: &[f64], lines: &mut [u32], links: &mut [u32]) -> Result<SecondReport, Refusal> {
+fn report_second(
+    case: Case,
+    grid: &[f64],
+    lines: &mut [u32],
+    links: &mut [u32],
+) -> Result<SecondReport, Refusal> {
     second_report(grid, level(case), case.dx, case.dy, lines, links)
 }
 

@@ -1,6 +1,7 @@
 // A case: a grid, the build that is asked for, and the counts and the room that are expected; and the rooms in which a case is run, with the code that a call has
 // in each. A call's code is 0, or the number of its refusal.
-use isoringbuilder::{Built, SecondReport};
+use error::Refusal;
+use isoringbuilder::SecondReport;
 use limits::RECORD_STRIDE;
 use scan::FirstReport;
 use scope::Rule;
@@ -134,7 +135,7 @@ pub fn grid_code(code: u32) -> u32 {
 pub fn first_code(report: Result<FirstReport, Refusal>, counts: Counts) -> u32 {
     match report {
         Err(refusal) => error::number(refusal),
-        FirstReport::Room { segments, peak } => {
+        Ok(FirstReport { segments, peak }) => {
             if segments == counts.segments && peak == counts.peak {
                 0
             } else {
@@ -148,12 +149,14 @@ pub fn first_code(report: Result<FirstReport, Refusal>, counts: Counts) -> u32 {
 pub fn second_code(report: Result<SecondReport, Refusal>, counts: Counts) -> u32 {
     match report {
         Err(refusal) => error::number(refusal),
-        SecondReport::Room {
-            segments,
-            rings,
-            peak,
-            points,
-        } => {
+        Ok(
+            SecondReport {
+                segments,
+                rings,
+                peak,
+                points,
+            },
+        ) => {
             if segments == counts.segments
                 && rings == counts.rings
                 && peak == counts.peak

@@ -2,6 +2,7 @@
 use crate::grids::put_records;
 use crate::tables::{SOILED, WORDS, after, points_front, put_point, word};
 use crate::text::NUMBERS;
+use error::Refusal;
 use explaining::{RingFate, ring_fate};
 use limits::{HOLE, NO_OWNER, POLYGON, RECORD_STRIDE};
 
@@ -20,9 +21,9 @@ fn is_recorded(record: &[u32], class: u32, owner: u32) -> bool {
 // Whether ring k has the fate that its record says. The number behind the last is that of no ring.
 fn same_fate(fate: Result<RingFate, Refusal>, k: u32, rings: u32, record: &[u32]) -> bool {
     match fate {
-        RingFate::Polygon => is_recorded(record, POLYGON, k),
-        RingFate::Hole(owner, _) => is_recorded(record, HOLE, owner),
-        RingFate::Dropped => is_recorded(record, HOLE, NO_OWNER),
+        Ok(RingFate::Polygon) => is_recorded(record, POLYGON, k),
+        Ok(RingFate::Hole(owner, _)) => is_recorded(record, HOLE, owner),
+        Ok(RingFate::Dropped) => is_recorded(record, HOLE, NO_OWNER),
         Err(refusal) => (k == rings) & (error::number(refusal) == 15),
     }
 }

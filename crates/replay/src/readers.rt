@@ -3,7 +3,7 @@
 ghost use Rattle.std.specs.Prelude.{◌≤◌};
 
 use crate::tried::ROOM;
-use geojson::TextAnswer;
+use error::Refusal;
 use records::{record_set_faulty, record_text_length, write_record_text};
 use ringrecord::RingRecord;
 

@@ -5,7 +5,6 @@ use crate::calls::VALUES;
 use crate::cases::{Case, SPARE, built_code};
 use crate::row_calls::{Answer, FULL, call_begin, climb, short_refused, turn_refused};
 use crate::tables::{SOIL, SOILED, WORDS, after, floats_part, points_hold, put, word, words_hold};
-use isoringbuilder::Built;
 use limits::RECORD_STRIDE;
 use rows::Rows;
 use std::num::{wrapping_add_u32, wrapping_add_usize};

@@ -2,7 +2,7 @@
 // that a program can look at every record. They only test, so all that is proved of a function is that it is safe and ends.
 ghost use Rattle.std.specs.Prelude.{◌≤◌};
 
-use isoringbuilder::Built;
+use error::Refusal;
 use records::{contour_records, isoband_records, line_records, ring_records};
 use ringrecord::{Fate, RingRecord};
 use scope::{Level, Rule};
