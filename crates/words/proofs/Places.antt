@@ -1,9 +1,9 @@
 -- The places of the set bits of a word, one after the other: the lowest is the first, and those of what is left of the word follow it. And of any tests,
 -- those that hold. By induction on the number of tests. Assumes nothing.
 use mathlib.Core.Path.{◌≡◌, refl, sym, ◌∙◌, ap, subst}
-use mathlib.Core.Bool.{Bool, true, false, false≢true}
+use mathlib.Core.Bool.{Bool, true, false}
 use mathlib.Core.List.{List, [], ◌∷◌}
-use Prim.Native.Nat.{ℕ, zero, suc, ◌+◌, ◌-◌, ◌*◌, ◌/◌, ◌%◌, ◌^◌, ◌≤◌, ◌<◌}
+use Prim.Native.Nat.{ℕ, zero, suc, ◌+◌, ◌-◌, ◌/◌, ◌%◌, ◌^◌, ◌≤◌, ◌<◌}
 use native.Mathlib.Nat.{add-zero, pow-suc, div-one, sub-zero}
 use native.Mathlib.Decide.{ℕ_discrete}
 use native.Mathlib.Numerals.{add-one}
@@ -149,12 +149,12 @@ next-bit {word} {at} l h some =
           (λ j k. ap (bit_at word) (omega arith) ∙ there.none_before j k) (ap (bit_at word) (omega arith) ∙ there.found)
           ∙ ap (λ (n : ℕ). (at + t) ∷ holding (λ j. bit_at word (j - at)) (at + t + 1) n) fewer
           ∙ ap (λ (more : List ℕ). (at + t) ∷ more)
-              (held_alike (λ j. bit_at word (j - at)) (λ j. bit_at (word / 2 ^ t / 2) (j - (at + t + 1))) (at + t + 1) (64 - (at + t + 1))
-              (λ j l h. sym (
-                ap (λ (w : ℕ). bit_at w (j - (at + t + 1))) there.left_over
-                ∙ bit-is-test (λ j. bit_at word (suc (t + j))) (64 - at - suc t) (j - (at + t + 1)) (omega arith)
-                ∙ ap (bit_at word) (omega arith)
-              )));
+          (held_alike (λ j. bit_at word (j - at)) (λ j. bit_at (word / 2 ^ t / 2) (j - (at + t + 1))) (at + t + 1) (64 - (at + t + 1))
+          (λ j l h. sym (
+          ap (λ (w : ℕ). bit_at w (j - (at + t + 1))) there.left_over
+          ∙ bit-is-test (λ j. bit_at word (suc (t + j))) (64 - at - suc t) (j - (at + t + 1)) (omega arith)
+          ∙ ap (bit_at word) (omega arith)
+          )));
       still-fits = rw (there.left_over, fewer) (packed-small (λ j. bit_at word (suc (t + j))) (64 - (at + t + 1)));
     }
 
