@@ -153,6 +153,7 @@ fn with_pane(
 }
 
 // The counts after the cells of row `r`, from those before it. `row` holds the samples above these cells, and then those below.
+#[tactic(auto, unfolding(scope::specs::Limits::side_limit))]
 fn with_row(
     values: &[f64],
     level: Level,
@@ -175,8 +176,7 @@ fn with_row(
     let mut counts = before;
     let mut upper = false;
     let mut lower = false;
-    let mut w = 0;
-    while SAMPLES * w <= dx {
+    for w in 0..dx / SAMPLES + 1 {
         let upper_word = row[w];
         let lower_word = lower_word(values, level, dx, dy, r, SAMPLES * w);
         row[w] = lower_word;
@@ -184,12 +184,12 @@ fn with_row(
         counts = with_pane(values, level, dx, dy, r, w, pane, marks, counts);
         upper = bit_at(upper_word, 63);
         lower = bit_at(lower_word, 63);
-        w += 1;
     }
     counts
 }
 
 // The counts after all cells of a grid that fits, row after row. A tile that keeps the mark 0 has no active cell.
+#[tactic(auto, unfolding(scope::specs::Limits::side_limit))]
 pub fn scan(values: &[f64], level: Level, dx: usize, dy: usize, marks: &mut [u8; TILES]) -> Counts
     requires sized { Sized (length values.now) dx dy }
     requires marks_len { length marks.old ≡ 4096 }
@@ -202,10 +202,8 @@ pub fn scan(values: &[f64], level: Level, dx: usize, dy: usize, marks: &mut [u8;
         open_lines: 0,
         peak: 0,
     };
-    let mut r = 0;
-    while r <= dy {
+    for r in 0..dy + 1 {
         counts = with_row(values, level, dx, dy, r, &mut row, marks, counts);
-        r += 1;
     }
     counts
 }

@@ -20,6 +20,7 @@ use words::{Pane, SAMPLES, bit_at, changes_in, number_in, pane_of, set_bits};
 
 // Sixty-four cells of row `r` from cell `c` on. Only the active cells are drawn, by the bits of `changes`. The values, the level and
 // the rows say whose cells these are. The caller sees that the links' numbers fit, at most two a cell.
+#[tactic(auto, unfolding(scope::specs::Limits::side_limit))]
 fn draw_changes(
     values: &[f64],
     level: Level,
@@ -51,6 +52,7 @@ fn draw_changes(
 
 // The cells of row `r`. `row` holds the samples above these cells, and then those below. A word whose tile has no mark has no active cell: it is not looked
 // at, and its samples below are those above.
+#[tactic(auto, unfolding(scope::specs::Limits::side_limit))]
 fn stitch_row(
     values: &[f64],
     level: Level,
@@ -75,10 +77,8 @@ fn stitch_row(
     let mut run = before;
     let mut upper = false;
     let mut lower = false;
-    let mut w = 0;
-    while SAMPLES * w <= dx {
+    for w in 0..dx / SAMPLES + 1 {
         if marks[tile_of(r, w)] == 0 {
-            w += 1;
             continue;
         }
         let c = SAMPLES * w;
@@ -92,13 +92,13 @@ fn stitch_row(
         );
         upper = bit_at(upper_word, 63);
         lower = bit_at(lower_word, 63);
-        w += 1;
     }
     run
 }
 
 // The stitching pass over all cells of a grid that fits, row after row: what it leaves in the two tables, and how far stitching has come. The scan has
 // marked the tiles that have an active cell.
+#[tactic(auto, unfolding(scope::specs::Limits::side_limit))]
 pub fn stitch(
     values: &[f64],
     level: Level,
@@ -123,10 +123,8 @@ pub fn stitch(
         },
         next: 0,
     };
-    let mut r = 0;
-    while r <= dy {
+    for r in 0..dy + 1 {
         run = stitch_row(values, level, dx, dy, r, &mut row, marks, lines, links, run);
-        r += 1;
     }
     run.progress
 }

@@ -1,6 +1,6 @@
 -- `stitching::draw_changes` meets its contract. The loop's invariant: the run is that after the cells that are seen, and the places of the other active ones
 -- are left. Assumes nothing.
-use mathlib.Core.Path.{◌≡◌, refl, ◌∙◌}
+use mathlib.Core.Path.{refl, ◌∙◌}
 use Prim.Native.Nat.{◌+◌}
 use native.Mathlib.Omega.{arith}
 use Rattle.scope.specs.Limits.{side_limit}
@@ -18,10 +18,6 @@ loop-j-init c =
 pub number_in-number-requires : goal.number_in-number-requires
 number_in-number-requires c = (unseen-next _ _ _ c.loop-j.invariant.1 c.in-Some.ensures.steps).in-word
 
-pub overflow_cast-dx : goal.overflow_cast-dx
-unfolding side_limit
-overflow_cast-dx c = omega arith
-
 pub overflow_cast-c : goal.overflow_cast-c
 unfolding side_limit
 overflow_cast-c c =
@@ -33,10 +29,6 @@ unfolding side_limit
 overflow_add-c c =
     let next = unseen-next _ _ _ c.loop-j.invariant.1 c.in-Some.ensures.steps in
     omega (arith, c.requires.sized.columns, active-inside _ _ _ (terrain-outside _ _ _ _) c.requires.shows next c.loop-j.invariant.2 c.number_in-number.ensures)
-
-pub overflow_cast-r : goal.overflow_cast-r
-unfolding side_limit
-overflow_cast-r c = omega arith
 
 pub draw_cell-run-requires : goal.draw_cell-run-requires
 draw_cell-run-requires c =
