@@ -1,6 +1,6 @@
 -- Tests packed into a number: it is below 2 ^ n, and of m + n tests the last n are its high part. So a word that holds the last samples of
 -- some values takes in those before them, and fits. Assumes nothing.
-use mathlib.Core.Path.{◌≡◌, refl, sym, ◌∙◌, ap}
+use mathlib.Core.Path.{◌≡◌, refl, sym, ◌∙◌, ap, subst}
 use mathlib.Core.Bool.{Bool, true, false}
 use mathlib.Core.List.{List}
 use Prim.Native.Nat.{ℕ, zero, suc, ◌+◌, ◌-◌, ◌*◌, ◌^◌, ◌≤◌, ◌<◌}
@@ -93,22 +93,26 @@ module _ (rule : Float → Bool) (values : List Float) (i n : ℕ) where
   unfolding packed
   holds-none = record { left-within = omega arith; held = rw (sub_self n) }
 
-  -- the last m of those left are taken in
-  pub holds_more : {left word : ℕ} (m part : ℕ) → Holds rule values i n left word → m ≤ left → part ≡ packed (samples_from rule values (i + (left - m))) m → Holds rule values i n (left - m) (word * 2 ^ m + part)
-  holds_more {left} {word} m part w h e = record {
-    left-within = omega arith;
-    held = rw (e, w.held, more) (sym (rw on at (samples-split rule values (i + (left - m)) m (n - left))));
+  -- the last m of those left are taken in, and fewer are left
+  pub holds_more : {left fewer word : ℕ} (m part : ℕ) → Holds rule values i n left word → fewer + m ≡ left → part ≡ packed (samples_from rule values (i + fewer)) m → Holds rule values i n fewer (word * 2 ^ m + part)
+  holds_more {left} {fewer} {word} m part w h e = record {
+    left-within = omega (arith, w.left-within);
+    held = rw (e, w.held, more) (sym (rw on at (samples-split rule values (i + fewer) m (n - left))));
   }
     where
-      more : n - (left - m) ≡ m + (n - left)
-      more = omega arith
+      more : n - fewer ≡ m + (n - left)
+      more = omega (arith, w.left-within)
 
-      on : i + (left - m) + m ≡ i + left
+      on : i + fewer + m ≡ i + left
       on = omega arith
 
   -- the last of those left is taken in
-  pub holds-one : {left word bit : ℕ} {sample : Bool} → Holds rule values i n left word → 1 ≤ left → bit ≡ when 1 sample → sample ≡ rule (get_or values (i + (left - 1)) nan) → Holds rule values i n (left - 1) (word * 2 + bit)
+  pub holds-one : {left fewer word bit : ℕ} {sample : Bool} → Holds rule values i n left word → fewer + 1 ≡ left → bit ≡ when 1 sample → sample ≡ rule (get_or values (i + fewer) nan) → Holds rule values i n fewer (word * 2 + bit)
   holds-one w h e s = holds_more 1 _ w h (e ∙ ap (when 1) s ∙ sym (one-sample rule values _))
+
+  -- those left by another name
+  pub holds-as : {left same word : ℕ} → Holds rule values i n left word → left ≡ same → Holds rule values i n same word
+  holds-as {word = word} w e = subst (λ (left : ℕ). Holds rule values i n left word) e w
 
   -- what is held fits a word
   pub holds_fits : {left word : ℕ} → Holds rule values i n left word → n ≤ 64 → word < 2 ^ 64
@@ -116,7 +120,7 @@ module _ (rule : Float → Bool) (values : List Float) (i n : ℕ) where
 
   -- and so it does once it is moved up by m of those left
   pub holds-room : {left word : ℕ} (m : ℕ) → Holds rule values i n left word → m ≤ left → n ≤ 64 → word * 2 ^ m < 2 ^ 64
-  holds-room m w h l = omega (arith, holds_fits (holds_more m _ w h refl) l)
+  holds-room {left} m w h l = omega (arith, holds_fits (holds_more {fewer = left - m} m _ w (omega arith) refl) l)
 
   -- at the end none are left
   pub holds-all : {left word : ℕ} → Holds rule values i n left word → left ≤ 0 → word ≡ packed (samples_from rule values i) n

@@ -97,15 +97,13 @@ pub fn word_of(values: &[f64], level: Level, i: usize, n: usize) -> u64
     let threshold = level.threshold;
     let rule = level.rule;
     let number = rule_number(rule);
+    let eights = n / 8;
     let mut word: u64 = 0;
-    let mut left = n;
-    while left % 8 != 0 {
-        left -= 1;
-        word = word * 2 + bit_of(1, above(threshold, number, values[i + left]));
+    for j in (eights * 8..n).rev() {
+        word = word * 2 + bit_of(1, above(threshold, number, values[i + j]));
     }
-    while 0 < left {
-        left -= 8;
-        word = word * 256 + eight(values, threshold, number, i + left);
+    for k in (0..eights).rev() {
+        word = word * 256 + eight(values, threshold, number, i + k * 8);
     }
     word
 }
