@@ -16,26 +16,19 @@ use std::marker::Model;
 // How many samples a word holds.
 pub const SAMPLES: usize = 64;
 
-// `weight` where a sample is above, else 0.
-fn bit_of(weight: u64, sample: bool) -> u64
-    ensures { (result ≡ when weight sample) × (result ≤ weight) }
-{
-    if sample { weight } else { 0 }
-}
-
 // Eight samples from value `i` on, at the level of a threshold and a rule's number.
 fn eight_known(values: &[f64], threshold: f64, number: u32, i: usize) -> u64
     requires { i + 8 ≤ length values.now }
     ensures { result ≡ packed (samples_from (above_at (level_of threshold number)) values.now i) 8 }
 {
-    bit_of(1, above(threshold, number, values[i]))
-        + bit_of(2, above(threshold, number, values[i + 1]))
-        + bit_of(4, above(threshold, number, values[i + 2]))
-        + bit_of(8, above(threshold, number, values[i + 3]))
-        + bit_of(16, above(threshold, number, values[i + 4]))
-        + bit_of(32, above(threshold, number, values[i + 5]))
-        + bit_of(64, above(threshold, number, values[i + 6]))
-        + bit_of(128, above(threshold, number, values[i + 7]))
+    u64::from(above(threshold, number, values[i]))
+        + u64::from(above(threshold, number, values[i + 1])) * 2
+        + u64::from(above(threshold, number, values[i + 2])) * 4
+        + u64::from(above(threshold, number, values[i + 3])) * 8
+        + u64::from(above(threshold, number, values[i + 4])) * 16
+        + u64::from(above(threshold, number, values[i + 5])) * 32
+        + u64::from(above(threshold, number, values[i + 6])) * 64
+        + u64::from(above(threshold, number, values[i + 7])) * 128
 }
 
 // The same. The rule is decided once for all of them: in each arm the compiler knows it, and tests several samples at once.
@@ -100,7 +93,7 @@ pub fn word_of(values: &[f64], level: Level, i: usize, n: usize) -> u64
     let eights = n / 8;
     let mut word: u64 = 0;
     for j in (eights * 8..n).rev() {
-        word = word * 2 + bit_of(1, above(threshold, number, values[i + j]));
+        word = word * 2 + u64::from(above(threshold, number, values[i + j]));
     }
     for k in (0..eights).rev() {
         word = word * 256 + eight(values, threshold, number, i + k * 8);
@@ -178,7 +171,7 @@ pub struct Pane {
 fn one_left(word: u64, before: bool) -> u64
     ensures { result ≡ moved_in word before }
 {
-    word % 9223372036854775808 * 2 + bit_of(1, before)
+    word % 9223372036854775808 * 2 + u64::from(before)
 }
 
 // The cells whose right samples these are, with the samples on the left of the first.

@@ -12,10 +12,10 @@ pub overflow_mul-word : goal.overflow_mul-word
 overflow_mul-word c = omega (arith, holds-room _ _ _ _ 1 c.loop-j.invariant.0 (omega arith) (omega arith))
 
 pub loop-j-preserved : goal.loop-j-preserved
-loop-j-preserved c = (holds-one _ _ _ _ c.loop-j.invariant.0 (omega arith) c.bit_of.ensures.0 c.above.ensures, omega arith)
+loop-j-preserved c = (holds-one _ _ _ _ c.loop-j.invariant.0 (omega arith) c.from.ensures c.above.ensures, omega arith)
 
 pub overflow_add-word : goal.overflow_add-word
-overflow_add-word c = omega (arith, holds_fits _ _ _ _ (holds-one _ _ _ _ c.loop-j.invariant.0 (omega arith) c.bit_of.ensures.0 c.above.ensures) (omega arith))
+overflow_add-word c = omega (arith, holds_fits _ _ _ _ (holds-one _ _ _ _ c.loop-j.invariant.0 (omega arith) c.from.ensures c.above.ensures) (omega arith))
 
 pub loop-k-init : goal.loop-k-init
 loop-k-init c = holds-as _ _ _ _ c.loop-j.invariant.0 (omega arith)
