@@ -230,8 +230,8 @@ pub fn tally_of(pane: Pane, changes: u64) -> Tally
     let opening = lower ^ (lower & (above | left));
     let closing = upper ^ (upper & (below | right));
     Tally {
-        segments: u64::count_ones(changes) + u64::count_ones(lower & upper),
-        opened: u64::count_ones(opening),
-        closed: u64::count_ones(closing),
+        segments: changes.count_ones() + (lower & upper).count_ones(),
+        opened: opening.count_ones(),
+        closed: closing.count_ones(),
     }
 }
