@@ -1,13 +1,13 @@
 -- `scan::first_report` meets its contract. Each arm is given which answer `grid_fit` returned, which its contract says is the definition's;
 -- a grid that fits can be scanned. Assumes nothing.
-use mathlib.Core.Path.{refl, sym, ◌∙◌}
+use mathlib.Core.Path.{sym, ◌∙◌}
 use Rattle.scan.specs.Scanned.{scanned}
 use Rattle.scan.specs.Report.{room_of, report_for, first_report}
 use Rattle.grid.proofs.Laws.{a-grid-that-fits-is-sized}
 use Rattle.scan.proofs.first_report.Goals as goal
 
-pub scan-counts-requires : goal.scan-counts-requires
-scan-counts-requires c = record { sized = a-grid-that-fits-is-sized _ _ _ (sym c.grid_fit-fit.ensures ∙ c.in-Fits.is); marks_len = refl }
+pub invariant_of-scan : goal.invariant_of-scan
+invariant_of-scan c = record { sized = a-grid-that-fits-is-sized _ _ _ (sym c.grid_fit-fit.ensures ∙ c.in-Fits.is) }
 
 pub returns-in-Refused : goal.returns-in-Refused
 unfolding first_report report_for

@@ -15,7 +15,7 @@ loop-r-init c = (counts-begin _ _, no-words-above _ (terrain-outside _ _ _ _), n
 pub with_row-counts-requires : goal.with_row-counts-requires
 with_row-counts-requires c =
     let so_far = c.loop-r.invariant in
-    record { sized = c.requires.sized; r_le_dy = omega arith; kept = so_far.1; marked = so_far.2; before_value = so_far.0 }
+    record { r_le_dy = omega arith; kept = so_far.1; marked = so_far.2; before_value = so_far.0 }
 
 pub loop-r-preserved : goal.loop-r-preserved
 loop-r-preserved c =
@@ -25,5 +25,5 @@ loop-r-preserved c =
 pub returns : goal.returns
 returns c =
     let so_far = c.loop-r.invariant in
-    let rows : c.loop-r.r ≡ suc c.args.dy = omega arith in
+    let rows : c.loop-r.r ≡ suc c.args.grid.dy = omega arith in
     record { value = so_far.0 ∙ rw rows (sym (row_done _ _ _)) ∙ counts_end _ (terrain-outside _ _ _ _); marked = marked-as-far _ 0 rows so_far.2 }

@@ -24,7 +24,7 @@ pub with_cell-counts-requires : goal.with_cell-counts-requires
 with_cell-counts-requires c =
     let so_far = c.loop-j.invariant in
     active-fits _ (terrain-outside _ _ _ _) c.requires.shows (unseen-next _ _ _ so_far.1 c.in-Some.ensures.steps) so_far.2
-    c.number_in.ensures c.requires.sized.columns (omega (arith, c.requires.sized.rows))
+    c.number_in.ensures c.args.grid.sized.columns (omega (arith, c.args.grid.sized.rows))
 
 pub loop-j-preserved : goal.loop-j-preserved
 loop-j-preserved c =

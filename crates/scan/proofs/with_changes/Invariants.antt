@@ -3,8 +3,9 @@
 use mathlib.Core.Path.{◌≡◌}
 use mathlib.Core.List.{List}
 use Prim.Native.Nat.{ℕ, ◌+◌}
-use Rattle.scope.specs.Terrain.{Sheet, above_at, terrain}
+use Rattle.scope.specs.Terrain.{Sheet}
 use Rattle.scan.specs.declared.Counts.{Counts}
+use Rattle.scan.specs.Rows.{sheet_of}
 use Rattle.scan.specs.Scanned.{counts_after}
 use Rattle.scan.proofs.Rows.{Unseen}
 use Rattle.scan.proofs.with_changes.Given as goal
@@ -14,4 +15,4 @@ abbrev pub Seen : Sheet → ℕ → ℕ → ℕ → List ℕ → Counts → Type
 Seen A dx r c left counts = (at : ℕ) × Unseen A r c at left × (counts ≡ counts_after A dx r (c + at))
 
 abbrev pub invariant-loop-j : goal.invariant-loop-j
-invariant-loop-j l = Seen (terrain (above_at l.fn.level) l.values l.dx l.dy) l.dx l.r l.c l.j-iterator l.counts
+invariant-loop-j l = Seen (sheet_of l.fn.grid l.fn.level) l.grid.dx l.r l.c l.j-iterator l.counts

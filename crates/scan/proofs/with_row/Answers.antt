@@ -16,7 +16,7 @@ loop-w-init c =
 pub with_pane-counts-requires : goal.with_pane-counts-requires
 unfolding side_limit
 with_pane-counts-requires c =
-    let so_far = c.loop-w.invariant in record { sized = c.requires.sized; r_le_dy = (omega arith, omega arith, omega arith); marks_len = so_far.1.rows-marked.marks-size; shows = pane-there _ _ so_far.0 refl c.lower_word-lower_word.ensures c.pane_of-pane.ensures; before_value = so_far.2 }
+    let so_far = c.loop-w.invariant in record { r_le_dy = (omega arith, omega arith, omega arith); marks_len = so_far.1.rows-marked.marks-size; shows = pane-there _ _ so_far.0 refl c.lower_word-lower_word.ensures c.pane_of-pane.ensures; before_value = so_far.2 }
 
 pub loop-w-preserved : goal.loop-w-preserved
 unfolding side_limit

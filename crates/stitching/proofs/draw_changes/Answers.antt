@@ -22,20 +22,20 @@ pub overflow_cast-c : goal.overflow_cast-c
 unfolding side_limit
 overflow_cast-c c =
     let next = unseen-next _ _ _ c.loop-j.invariant.1 c.in-Some.ensures.steps in
-    omega (arith, c.requires.sized.columns, active-inside _ _ _ (terrain-outside _ _ _ _) c.requires.shows next c.loop-j.invariant.2 c.number_in-number.ensures)
+    omega (arith, c.args.grid.sized.columns, active-inside _ _ _ (terrain-outside _ _ _ _) c.requires.shows next c.loop-j.invariant.2 c.number_in-number.ensures)
 
 pub overflow_add-c : goal.overflow_add-c
 unfolding side_limit
 overflow_add-c c =
     let next = unseen-next _ _ _ c.loop-j.invariant.1 c.in-Some.ensures.steps in
-    omega (arith, c.requires.sized.columns, active-inside _ _ _ (terrain-outside _ _ _ _) c.requires.shows next c.loop-j.invariant.2 c.number_in-number.ensures)
+    omega (arith, c.args.grid.sized.columns, active-inside _ _ _ (terrain-outside _ _ _ _) c.requires.shows next c.loop-j.invariant.2 c.number_in-number.ensures)
 
 pub draw_cell-run-requires : goal.draw_cell-run-requires
 draw_cell-run-requires c =
     let so_far = c.loop-j.invariant in
     let next = unseen-next _ _ _ so_far.1 c.in-Some.ensures.steps in record {
       within = record {
-        columns = c.requires.sized.columns;
+        columns = c.args.grid.sized.columns;
         column = active-inside _ _ _ (terrain-outside _ _ _ _) c.requires.shows next so_far.2 c.number_in-number.ensures;
         row = omega arith;
       };

@@ -3,8 +3,9 @@
 use mathlib.Core.Path.{◌≡◌}
 use mathlib.Core.List.{List}
 use Prim.Native.Nat.{ℕ}
-use Rattle.scope.specs.Terrain.{Sheet, above_at, terrain}
+use Rattle.scope.specs.Terrain.{Sheet}
 use Rattle.machine.specs.Machine.{Run}
+use Rattle.scan.specs.Rows.{sheet_of}
 use Rattle.scan.proofs.Rows.{Unseen}
 use Rattle.drawing.specs.Values.{run_of}
 use Rattle.stitching.specs.Rows.{cells_drawn}
@@ -15,4 +16,4 @@ abbrev pub Seen : Sheet → ℕ → Run → ℕ → ℕ → List ℕ → Run →
 Seen A dx run₀ r c left run = (at : ℕ) × Unseen A r c at left × (run ≡ cells_drawn A dx run₀ r c at)
 
 abbrev pub invariant-loop-j : goal.invariant-loop-j
-invariant-loop-j l = Seen (terrain (above_at l.fn.level) l.values l.dx l.dy) l.dx (run_of l.initial.lines l.initial.links l.initial.run) l.r l.c l.j-iterator (run_of l.lines l.links l.run)
+invariant-loop-j l = Seen (sheet_of l.fn.grid l.fn.level) l.grid.dx (run_of l.initial.lines l.initial.links l.initial.run) l.r l.c l.j-iterator (run_of l.lines l.links l.run)

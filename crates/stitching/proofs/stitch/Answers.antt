@@ -16,7 +16,7 @@ loop-r-init c = (run-begins _ _ _, no-words-above _ (terrain-outside _ _ _ _))
 pub stitch_row-run-requires : goal.stitch_row-run-requires
 stitch_row-run-requires c =
     let so_far = c.loop-r.invariant in
-    record { sized = c.requires.sized; r_le_dy = omega arith; kept = so_far.1; marked = c.requires.marked; dx_bound = a-row-more-fits _ _ _ _ _ so_far.0 c.requires.sized.columns (omega (arith, c.requires.sized.rows)) }
+    record { r_le_dy = omega arith; kept = so_far.1; marked = c.requires.marked; dx_bound = a-row-more-fits _ _ _ _ _ so_far.0 c.args.grid.sized.columns (omega (arith, c.args.grid.sized.rows)) }
 
 pub loop-r-preserved : goal.loop-r-preserved
 loop-r-preserved c =

@@ -15,7 +15,7 @@ loop-w-init c =
 pub bounds-marks-tile_of : goal.bounds-marks-tile_of
 unfolding side_limit
 bounds-marks-tile_of c =
-    omega (arith, c.tile_of.ensures, a-tile-has-a-mark {r = c.args.r} {w = c.loop-w.w} (omega (arith, c.requires.sized.rows)) (omega arith))
+    omega (arith, c.tile_of.ensures, a-tile-has-a-mark {r = c.args.r} {w = c.loop-w.w} (omega (arith, c.args.grid.sized.rows)) (omega arith))
 
 pub loop-w-preserved-then-marks-tile_of-eq0 : goal.loop-w-preserved-then-marks-tile_of-eq0
 unfolding side_limit
@@ -28,7 +28,7 @@ loop-w-preserved-then-marks-tile_of-eq0 c =
 
 pub draw_changes-run-requires : goal.draw_changes-run-requires
 draw_changes-run-requires c =
-    let so_far = c.loop-w.invariant in record { sized = c.requires.sized; r_le_dy = c.requires.r_le_dy; shows = pane-there _ _ so_far.0 refl c.lower_word-lower_word.ensures c.pane_of-pane.ensures; changes_value = c.changes_in-changes.ensures; next_bound = omega (arith, c.requires.dx_bound, row-few _ _ _ _ _ so_far.1) }
+    let so_far = c.loop-w.invariant in record { r_le_dy = c.requires.r_le_dy; shows = pane-there _ _ so_far.0 refl c.lower_word-lower_word.ensures c.pane_of-pane.ensures; changes_value = c.changes_in-changes.ensures; next_bound = omega (arith, c.requires.dx_bound, row-few _ _ _ _ _ so_far.1) }
 
 pub loop-w-preserved : goal.loop-w-preserved
 unfolding side_limit
