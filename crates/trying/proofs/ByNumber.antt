@@ -9,7 +9,8 @@ use native.Mathlib.Omega.{arith}
 use lib.Dec.{eqb, eqb→eq}
 use lib.ListN.{length, get_or}
 use Rattle.scope.specs.Terrain.{Sheet}
-use Rattle.scope.specs.Cells.{Left, Right, Top, Bottom, Stroke, ◌⟶◌, case_table, drawn, cell_number}
+use Rattle.scope.specs.declared.Side.TheVariants.{Left, Right, Top, Bottom}
+use Rattle.scope.specs.Cells.{Stroke, ◌⟶◌, case_table, drawn, cell_number}
 use Rattle.cells.specs.declared.Stroke as cells
 use Rattle.cells.specs.Sides.{numbered, stroke_at}
 use Rattle.cells.proofs.Laws.{past-the-table-nothing-is-drawn}
