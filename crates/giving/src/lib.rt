@@ -5,11 +5,12 @@
 
 ghost use Rattle.std.specs.Prelude.{◌≡◌, ◌+◌, ◌-◌, ◌^◌, ◌<◌};
 ghost use Rattle.std.proofs.lemmas.List.Edits.{sets};
+ghost use Rattle.scope.specs.Cells.{◌⟶◌};
 ghost use Rattle.scope.specs.Room.{directory_words};
 ghost use Rattle.words.specs.Panes.{Shows, changes_in};
 ghost use Rattle.machine.specs.Machine.{word_of};
 ghost use Rattle.lines.specs.Values.{edges_of};
-ghost use Rattle.drawing.specs.Values.{Within, points_of, stroke_of};
+ghost use Rattle.drawing.specs.Values.{Within, points_of};
 ghost use Rattle.sweep.specs.Sweep.{between, swept};
 ghost use Rattle.giving.specs.Giving.{link_taken, stock_after, ring_out, given_record, ring_given, stroke_given, number_given, cell_given, row_given, slots_filed};
 ghost use Rattle.giving.specs.Values.{given_of};
@@ -213,7 +214,7 @@ fn give_stroke(
 ) -> Play
     requires { at ≡ points_of dx c r }
     ensures { given_of lines.new links.new points.new directory.new result
-        ≡ stroke_given dx c r (edges_of met) (given_of lines.old links.old points.old directory.old p) (stroke_of stroke) }
+        ≡ stroke_given dx c r (edges_of met) (given_of lines.old links.old points.old directory.old p) (stroke.from ⟶ stroke.to) }
 {
     let s = point_at(at, stroke.from);
     let e = point_at(at, stroke.to);
