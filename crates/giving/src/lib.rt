@@ -53,21 +53,15 @@ fn stock_after(links: &[u32], p: Play) -> Play
     let held = word_of(p.held as u64 + 1);
     if p.held < p.fresh {
         return Play {
-            count: p.count,
             spare: next_link(links, p.spare),
-            fresh: p.fresh,
             held,
-            rings: p.rings,
-            points: p.points,
+            ..p
         };
     }
     Play {
-        count: p.count,
-        spare: p.spare,
         fresh: word_of(p.fresh as u64 + 1),
         held,
-        rings: p.rings,
-        points: p.points,
+        ..p
     }
 }
 
@@ -89,26 +83,8 @@ fn with_count(p: Play, after: Progress) -> Play
 {
     Play {
         count: after.count,
-        spare: p.spare,
-        fresh: p.fresh,
-        held: p.held,
-        rings: p.rings,
-        points: p.points,
+        ..p
     }
-}
-
-// One less, and 0 for 0.
-fn one_less(n: u32) -> u32
-    ensures { result ≡ n - 1 }
-{
-    if n == 0 { 0 } else { n - 1 }
-}
-
-// One number less another, and 0 where it is larger.
-fn less(n: u32, m: u32) -> u32
-    ensures { result ≡ n - m }
-{
-    if n < m { 0 } else { n - m }
 }
 
 // Stores the start points of `size` links from link `first` on, then the point of index `end`, then the first point again, two words a point, from word `at`
@@ -126,19 +102,17 @@ fn write_ring(
     ensures { points.new ≡ sets points.old at (ring_out dx links.now first size end) }
 {
     let mut k = first;
-    let mut place = at;
-    let mut left = size;
-    while 0 < left {
+    for i in 0..size as usize {
+        let place = at + 2 * i;
         if points.len() <= place {
             return;
         }
         put_index(points, dx, link_point(links, k), place);
-        place += 2;
         k = next_link(links, k);
-        left -= 1;
     }
-    put_index(points, dx, end, place);
-    put_index(points, dx, link_point(links, first), place + 2);
+    let last = at + 2 * (size as usize);
+    put_index(points, dx, end, last);
+    put_index(points, dx, link_point(links, first), last + 2);
 }
 
 // Stores the record of the ring that was just written, of `size` links: its first point, its point count, class and no owner, and then its area.
@@ -160,10 +134,10 @@ fn after_ring(p: Play, count: u32, first: u32, size: u32) -> Play
     Play {
         count,
         spare: first,
-        fresh: p.fresh,
-        held: less(p.held, size),
+        held: p.held.saturating_sub(size),
         rings: word_of(p.rings as u64 + 1),
         points: word_of(p.points as u64 + size as u64 + 2),
+        ..p
     }
 }
 
@@ -193,7 +167,7 @@ fn give_ring(
     );
     put_ring_record(points, directory, p, size);
     put_next(links, line.last, p.spare);
-    let count = one_less(p.count);
+    let count = p.count.saturating_sub(1);
     release(lines, links, dx, count, f);
     after_ring(p, count, line.first, size)
 }
@@ -541,13 +515,12 @@ pub fn give_row(
     let mut play = p;
     let mut upper_left = false;
     let mut lower_left = false;
-    let mut w = 0;
-    while SAMPLES * w <= dx as usize {
+    for w in 0..dx as usize / SAMPLES + 1 {
         let upper_word = row_word(upper, w);
         let lower_word = row_word(lower, w);
         let pane = pane_of(upper_word, lower_word, upper_left, lower_left);
         let changes = changes_in(pane);
-        let next = give_changes(
+        play = give_changes(
             upper,
             lower,
             dx,
@@ -561,10 +534,8 @@ pub fn give_row(
             directory,
             play,
         );
-        play = next;
         upper_left = bit_at(upper_word, 63);
         lower_left = bit_at(lower_word, 63);
-        w += 1;
     }
     play
 }
@@ -573,12 +544,10 @@ pub fn give_row(
 pub fn file_lines(lines: &mut [u32], links: &[u32], dx: u32, count: u32)
     ensures { lines.new ≡ slots_filed dx links.now lines.old count }
 {
-    let mut i: u32 = 0;
-    while i < count {
+    for i in 0..count {
         let line = slot_at(lines, dx, i);
         let start = column_word(dx, link_point(links, line.first));
         put(lines, start, i);
         put(lines, column_word(dx, line.end), i);
-        i += 1;
     }
 }
