@@ -17,7 +17,9 @@ use error::Refusal;
 use grid::{GridFit, grid_fit};
 use limits::SIDE_LIMIT;
 use scope::Level;
-use words::{Pane, SAMPLES, bit_at, changes_in, number_in, pane_of, tally_of, whole_word, word_of};
+use words::{
+    Pane, SAMPLES, bit_at, changes_in, number_in, pane_of, set_bits, tally_of, whole_word, word_of,
+};
 
 // The samples of row `r` + 1 of the sheet on the right of the sixty-four cells from cell `c` on. The sheet is counted from one column and one row outside
 // the grid, and nothing outside the grid is above.
@@ -106,14 +108,8 @@ fn with_changes(
     ensures { result ≡ counts_after (terrain (above_at level) values.now dx dy) dx r (c + 64) }
 {
     let mut counts = before;
-    let mut rest = changes;
-    let mut at: u32 = 0;
-    while rest != 0 {
-        let skipped = u64::trailing_zeros(rest);
-        let j = at + skipped;
+    for j in set_bits(changes) {
         counts = with_cell(counts, number_in(pane, j));
-        rest = (rest >> skipped) / 2;
-        at = j + 1;
     }
     counts
 }

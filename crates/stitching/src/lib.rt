@@ -16,7 +16,7 @@ use drawing::{Run, draw_cell};
 use lines::Progress;
 use scan::{ROW_WORDS, TILES, lower_word, tile_of};
 use scope::Level;
-use words::{Pane, SAMPLES, bit_at, changes_in, number_in, pane_of};
+use words::{Pane, SAMPLES, bit_at, changes_in, number_in, pane_of, set_bits};
 
 // Sixty-four cells of row `r` from cell `c` on. Only the active cells are drawn, by the bits of `changes`. The values, the level and
 // the rows say whose cells these are. The caller sees that the links' numbers fit, at most two a cell.
@@ -42,15 +42,9 @@ fn draw_changes(
         ≡ cells_drawn (terrain (above_at level) values.now dx dy) dx (run_of lines.old links.old before) r c 64 }
 {
     let mut run = before;
-    let mut rest = changes;
-    let mut at: u32 = 0;
-    while rest != 0 {
-        let skipped = u64::trailing_zeros(rest);
-        let j = at + skipped;
+    for j in set_bits(changes) {
         let number = number_in(pane, j);
         run = draw_cell(lines, links, run, dx as u32, c as u32 + j, r as u32, number);
-        rest = (rest >> skipped) / 2;
-        at = j + 1;
     }
     run
 }

@@ -6,11 +6,12 @@ ghost use Rattle.std.specs.Int.Count.{ones};
 ghost use Rattle.scope.specs.Terrain.{above_at};
 ghost use Rattle.scope.specs.Cells.{when};
 ghost use Rattle.cells.specs.Rules.{level_of};
-ghost use Rattle.words.specs.Bits.{packed, samples_from, bit_at, moved_in};
+ghost use Rattle.words.specs.Bits.{packed, samples_from, bit_at, set_bits, moved_in};
 ghost use Rattle.words.specs.Panes.{pane_of, changes_in, number_in, saddles_in, opening_in, closing_in};
 
 use cells::{above, cell_number, rule_number};
 use scope::Level;
+use std::marker::Model;
 
 // How many samples a word holds.
 pub const SAMPLES: usize = 64;
@@ -115,6 +116,55 @@ pub fn bit_at(word: u64, j: u32) -> bool
     ensures { result ≡ bit_at word j }
 {
     (word >> j) % 2 == 1
+}
+
+// The places of the bits of a word that are set, from the lowest to the highest, seen as the list of those that are left: `rest` has the bits from place
+// `at` on.
+#[derive(Drop)]
+pub struct SetBits {
+    rest: u64,
+    at: u32,
+}
+
+impl Model for SetBits {
+    ghost use Rattle.std.specs.Prelude.{ℕ, List, ◌-◌, ◌^◌, ◌≤◌, ◌<◌};
+    ghost use Rattle.words.specs.Bits.{set_from};
+
+    ghost Value = { List ℕ };
+
+    ghost view = { λ it. set_from it.rest it.at };
+
+    ghost invariant = { λ it. (it.at ≤ 64) × (it.rest < 2 ^ (64 - it.at)) };
+}
+
+impl Iterator for SetBits {
+    ghost use Rattle.std.specs.Iterator.{YieldsFirst, item_count};
+
+    type Item = u32;
+
+    ghost next_gives = { YieldsFirst (λ left. left) };
+
+    ghost remaining = { item_count (λ left. left) };
+
+    #[inline]
+    fn next(&mut self) -> Option<u32> {
+        if self.rest == 0 {
+            return None;
+        }
+        let skipped = self.rest.trailing_zeros();
+        let place = self.at + skipped;
+        self.rest = (self.rest >> skipped) / 2;
+        self.at = place + 1;
+        Some(place)
+    }
+}
+
+// The places of the bits of `word` that are set.
+#[inline]
+pub fn set_bits(word: u64) -> SetBits
+    ensures { result ≡ set_bits word }
+{
+    SetBits { rest: word, at: 0 }
 }
 
 // Sixty-four neighbouring cells of a row, by their four samples: bit `j` of each word is a sample of cell `j`.
