@@ -100,10 +100,11 @@ module _ (A : Sheet) (dx r : ℕ) where
       (past (swept (cell_given A dx r) from c (n + t)) (c + (n + t)) (omega arith) ∙ past-stays from c n t h)
 
   -- where the next active cell is past the last column, the word's cells are done
-  pub word-stops : {c at rest t : ℕ} {now : Given} (from : Given) → Next A 0 c at rest t → dx < c + (at + t) → now ≡ swept (cell_given A dx r) from c at →
+  pub word-stops : {c at j : ℕ} {left : List ℕ} {now : Given} (from : Given) → Next A 0 c at j left → dx < c + j → now ≡ swept (cell_given A dx r) from c at →
       now ≡ swept (cell_given A dx r) from c 64
-  word-stops {c} {at} {rest} {t} from next far so_far =
-      let whole : at + t + (64 - (at + t)) ≡ 64 = omega (arith, next.in-word) in
-      so_far ∙ sym (cells_stay (cell_given A dx r) A 0 still from c at t next.none_between)
-      ∙ sym (past-stays from c (at + t) (64 - (at + t)) far)
+  word-stops {c} {at} {j} from next far so_far =
+      let there : at + (j - at) ≡ j = omega (arith, next.further) in
+      let whole : j + (64 - j) ≡ 64 = omega (arith, next.in-word) in
+      so_far ∙ sym (cells_stay (cell_given A dx r) A 0 still from c at (j - at) next.none_between)
+      ∙ ap (swept (cell_given A dx r) from c) there ∙ sym (past-stays from c j (64 - j) far)
       ∙ ap (swept (cell_given A dx r) from c) whole

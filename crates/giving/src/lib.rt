@@ -25,7 +25,7 @@ use measuring::{area_of, put_area};
 use packing::{next_link, put_index, put_record};
 use scan::ROW_WORDS;
 use sweep::row_word;
-use words::{Pane, SAMPLES, bit_at, changes_in, number_in, pane_of};
+use words::{Pane, SAMPLES, bit_at, changes_in, number_in, pane_of, set_bits};
 
 // How far the drawing has come: the open lines; of the links the first free one, how many were ever used and how many are held; and the rings given out
 // so far with their points.
@@ -479,19 +479,12 @@ fn give_changes(
         ≡ swept (cell_given (between upper.now lower.now) dx r) (given_of lines.old links.old points.old directory.old p) c 64 }
 {
     let mut play = p;
-    let mut rest = changes;
-    let mut at: u32 = 0;
-    while rest != 0 {
-        let skipped = u64::trailing_zeros(rest);
-        let j = at + skipped;
+    for j in set_bits(changes) {
         if dx < c + j {
             return play;
         }
         let number = number_in(pane, j);
-        let next = give_cell(lines, links, points, directory, play, dx, c + j, r, number);
-        play = next;
-        rest = (rest >> skipped) / 2;
-        at = j + 1;
+        play = give_cell(lines, links, points, directory, play, dx, c + j, r, number);
     }
     play
 }

@@ -19,7 +19,7 @@ use lines::tables::{column_word, link_point, slot_at, word_of};
 use packing::clear;
 use scan::ROW_WORDS;
 use sweep::row_word;
-use words::{Pane, SAMPLES, bit_at, changes_in, number_in, pane_of};
+use words::{Pane, SAMPLES, bit_at, changes_in, number_in, pane_of, set_bits};
 
 // What a trial has counted: the open lines and the most after any cell, the segments in no closed ring and the most after any cell, and the rings that closed
 // with their points.
@@ -224,16 +224,9 @@ fn try_changes(
     ensures { tried_of words.new result ≡ swept (cell_tried (between upper.now lower.now) dx) (tried_of words.old t) c 64 }
 {
     let mut trial = t;
-    let mut rest = changes;
-    let mut at: u32 = 0;
-    while rest != 0 {
-        let skipped = u64::trailing_zeros(rest);
-        let j = at + skipped;
+    for j in set_bits(changes) {
         let number = number_in(pane, j);
-        let next = try_cell(words, trial, dx, c + j, number);
-        trial = next;
-        rest = (rest >> skipped) / 2;
-        at = j + 1;
+        trial = try_cell(words, trial, dx, c + j, number);
     }
     trial
 }
