@@ -113,7 +113,7 @@ unfolding bit_at
 bit_further word j = ap (λ (x : ℕ). eqb (x % 2) 1) (shifted word j)
 
 -- a number below 2 ^ n is packed of its own bits
-own-bits : (word n : ℕ) → word < 2 ^ n → word ≡ packed (bit_at word) n
+pub own-bits : (word n : ℕ) → word < 2 ^ n → word ≡ packed (bit_at word) n
 unfolding packed
 own-bits word zero h = omega arith
 own-bits word (suc n) h =
