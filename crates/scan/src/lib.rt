@@ -69,20 +69,12 @@ fn with_cell(before: Counts, number: usize) -> Counts
     ensures { Drawn before number result }
 {
     let change = change_of(number);
-    let segments = before.segments + change.segments as u32;
-    let open_lines = before.open_lines + change.opened as u32 - change.closed as u32;
-    let peak = before.peak;
-    if peak < open_lines {
-        return Counts {
-            segments,
-            open_lines,
-            peak: open_lines,
-        };
-    }
+    let segments = before.segments + u32::from(change.segments);
+    let open_lines = before.open_lines + u32::from(change.opened) - u32::from(change.closed);
     Counts {
         segments,
         open_lines,
-        peak,
+        peak: before.peak.max(open_lines),
     }
 }
 

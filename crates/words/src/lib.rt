@@ -32,6 +32,7 @@ fn eight_known(values: &[f64], threshold: f64, number: u32, i: usize) -> u64
 }
 
 // The same. The rule is decided once for all of them: in each arm the compiler knows it, and tests several samples at once.
+// Kept: two arms that differ in a literal, since with one body for both rules the first report of a cone took 1.7 times as long (docs/DECISIONS.md).
 fn eight(values: &[f64], threshold: f64, number: u32, i: usize) -> u64
     requires { i + 8 ≤ length values.now }
     ensures { result ≡ packed (samples_from (above_at (level_of threshold number)) values.now i) 8 }
@@ -69,6 +70,7 @@ fn sixty_four(values: &[f64], threshold: f64, number: u32, i: usize) -> u64
 }
 
 // A whole word of samples from value `i` on. The rule is decided once for all of them, as in `eight`.
+// Kept: two arms that differ in a literal, for the time that `eight` names.
 pub fn whole_word(values: &[f64], level: Level, i: usize) -> u64
     requires { i + 64 ≤ length values.now }
     ensures { result ≡ packed (samples_from (above_at level) values.now i) 64 }
