@@ -1,6 +1,5 @@
 -- `bands::band_pass` meets its contract: the scans' counts say what both tables need, and their marks which tiles each stitching pass looks at.
 -- Assumes nothing.
-use mathlib.Core.Path.{refl}
 use native.Mathlib.Omega.{arith}
 use Rattle.scan.specs.Scanned.{scanned}
 use Rattle.grid.proofs.Laws.{a-grid-that-fits-is-sized}

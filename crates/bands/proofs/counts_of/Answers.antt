@@ -1,5 +1,4 @@
 -- `bands::counts_of` meets its contract, which is the scan's. Assumes nothing.
-use mathlib.Core.Path.{refl}
 use Rattle.grid.proofs.Laws.{a-grid-that-fits-is-sized}
 use Rattle.bands.proofs.counts_of.Goals as goal
 

@@ -1,6 +1,6 @@
 -- `isoringbuilder::pass_over` meets its contract: the scan's counts say what both tables need, and its marks which tiles the stitching pass looks at.
 -- Assumes nothing.
-use mathlib.Core.Path.{refl, ◌∙◌, ap}
+use mathlib.Core.Path.{◌∙◌, ap}
 use native.Mathlib.Omega.{arith}
 use Rattle.scope.specs.Room.{open_words, link_words}
 use Rattle.scan.specs.Scanned.{scanned}
