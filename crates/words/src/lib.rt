@@ -45,6 +45,7 @@ fn eight(values: &[f64], threshold: f64, number: u32, i: usize) -> u64
 }
 
 // Sixteen samples from value `i` on.
+// Kept: halves of halves, here and twice below, since a loop over eight eights took 1.14 times as long for the first report of a cone.
 fn sixteen(values: &[f64], threshold: f64, number: u32, i: usize) -> u64
     requires { i + 16 ≤ length values.now }
     ensures { result ≡ packed (samples_from (above_at (level_of threshold number)) values.now i) 16 }
