@@ -41,7 +41,15 @@ fn draw_changes(
     let mut run = before;
     for j in set_bits(changes) {
         let number = number_in(pane, j);
-        run = draw_cell(lines, links, run, grid.dx as u32, c as u32 + j, r as u32, number);
+        run = draw_cell(
+            lines,
+            links,
+            run,
+            grid.dx as u32,
+            c as u32 + j,
+            r as u32,
+            number,
+        );
     }
     run
 }
@@ -80,9 +88,7 @@ fn stitch_row(
         row[w] = lower_word;
         let pane = pane_of(upper_word, lower_word, upper, lower);
         let changes = changes_in(pane);
-        run = draw_changes(
-            grid, level, r, c, pane, changes, lines, links, run,
-        );
+        run = draw_changes(grid, level, r, c, pane, changes, lines, links, run);
         upper = bit_at(upper_word, 63);
         lower = bit_at(lower_word, 63);
     }
