@@ -12,7 +12,7 @@ ghost use Rattle.bands.specs.Bands.{band_fit, fit_pair, band_room_of, band_first
 ghost use Rattle.bands.specs.Passing.{BandPassed, stored_from, BandPacked};
 
 use error::Refusal;
-use grid::grid_fit;
+use grid::{Grid, grid_fit};
 use isoringbuilder::{SecondReport, link_words, open_words, point_words};
 use limits::{RECORD_STRIDE, SHORT_STRIDE};
 use packing::{clear, write_rings};
@@ -91,7 +91,7 @@ fn counts_of(values: &[f64], level: Level, dx: usize, dy: usize) -> Counts
     ensures { result ≡ scanned (terrain (above_at level) values.now dx dy) dx dy }
 {
     let mut marks = [0u8; TILES];
-    scan(values, level, dx, dy, &mut marks)
+    scan(Grid { values, dx, dy }, level, &mut marks)
 }
 
 // The larger segment count and the larger peak of two levels, for a grid that fits.
@@ -139,8 +139,9 @@ pub fn band_pass(
         lines.new links.new marks.new }
 {
     let mut upper_marks = [0u8; TILES];
-    let below = scan(values, lower, dx, dy, marks);
-    let above = scan(values, upper, dx, dy, &mut upper_marks);
+    let grid = Grid { values, dx, dy };
+    let below = scan(grid, lower, marks);
+    let above = scan(grid, upper, &mut upper_marks);
     let lower_segments = below.segments;
     let upper_segments = above.segments;
     let peak = below.peak.max(above.peak);
@@ -150,9 +151,9 @@ pub fn band_pass(
     if links.len() < link_words(lower_segments.max(upper_segments)) {
         return Err(Refusal::LinksShort);
     }
-    let first = stitch(values, lower, dx, dy, marks, lines, links);
+    let first = stitch(grid, lower, marks, lines, links);
     let lower_rings = first.rings;
-    let second = stitch(values, upper, dx, dy, &upper_marks, lines, links);
+    let second = stitch(grid, upper, &upper_marks, lines, links);
     let upper_rings = second.rings;
     let head = second.head;
     Ok(BandDrawing {
@@ -289,7 +290,7 @@ pub fn band_pack(
         directory,
         records,
     );
-    let again = stitch(values, lower, dx, dy, marks, lines, links);
+    let again = stitch(Grid { values, dx, dy }, lower, marks, lines, links);
     let first = again.head;
     write_rings(links, dx as u32, first, lower_segments, points, directory);
     Ok(rings)

@@ -1,3 +1,3 @@
--- What the code of this crate has beside document 01's definitions: the table's entries by the numbers of their sides, and the rules by numbers.
+-- What the code of this crate has beside document 01's definitions: the table's entries by their two sides, and the rules by numbers.
 pub mod Sides
 pub mod Rules

@@ -4,10 +4,10 @@
 ghost use Rattle.std.specs.Prelude.{◌≡◌, ◌+◌, ◌*◌, ◌^◌, ◌≤◌, ◌<◌, length};
 ghost use Rattle.scope.specs.Terrain.{above_at};
 ghost use Rattle.scope.specs.Cells.{when, number_of, drawn, opened, closed, point_index, indexed_point};
-ghost use Rattle.cells.specs.Sides.{numbered, stroke_at};
+ghost use Rattle.cells.specs.Sides.{sides_of, stroke_at};
 ghost use Rattle.cells.specs.Rules.{rule_of, level_of, rule_number};
 
-use scope::{Level, Rule};
+use scope::{Level, Rule, Side};
 
 // Whether a sample is above at the level of a threshold and a rule's number: its value is at least the threshold, or more than it. Where either is not a number
 // it is not above.
@@ -70,90 +70,78 @@ pub fn cell_number(
     share(1, lower_left) + share(2, lower_right) + share(4, upper_right) + share(8, upper_left)
 }
 
-// The number of a cell's left side, document 01's L.
-pub const LEFT: u8 = 0;
-
-// The number of a cell's right side, document 01's R.
-pub const RIGHT: u8 = 1;
-
-// The number of a cell's top side, document 01's T.
-pub const TOP: u8 = 2;
-
-// The number of a cell's bottom side, document 01's B.
-pub const BOTTOM: u8 = 3;
-
-// A segment of a cell, from the side of one number to the side of another.
+// A segment of a cell, from one side to another.
 #[derive(Clone, Copy)]
 pub struct Stroke {
-    pub from: u8,
-    pub to: u8,
+    pub from: Side,
+    pub to: Side,
 }
 
 // What stands in an unused place of the case table. No cell draws it.
 const UNUSED: Stroke = Stroke {
-    from: LEFT,
-    to: LEFT,
+    from: Side::Left,
+    to: Side::Left,
 };
 
 // The twelve strokes that cells draw, from each side to each other.
 const LEFT_TO_RIGHT: Stroke = Stroke {
-    from: LEFT,
-    to: RIGHT,
+    from: Side::Left,
+    to: Side::Right,
 };
 
 const LEFT_TO_TOP: Stroke = Stroke {
-    from: LEFT,
-    to: TOP,
+    from: Side::Left,
+    to: Side::Top,
 };
 
 const LEFT_TO_BOTTOM: Stroke = Stroke {
-    from: LEFT,
-    to: BOTTOM,
+    from: Side::Left,
+    to: Side::Bottom,
 };
 
 const RIGHT_TO_LEFT: Stroke = Stroke {
-    from: RIGHT,
-    to: LEFT,
+    from: Side::Right,
+    to: Side::Left,
 };
 
 const RIGHT_TO_TOP: Stroke = Stroke {
-    from: RIGHT,
-    to: TOP,
+    from: Side::Right,
+    to: Side::Top,
 };
 
 const RIGHT_TO_BOTTOM: Stroke = Stroke {
-    from: RIGHT,
-    to: BOTTOM,
+    from: Side::Right,
+    to: Side::Bottom,
 };
 
 const TOP_TO_LEFT: Stroke = Stroke {
-    from: TOP,
-    to: LEFT,
+    from: Side::Top,
+    to: Side::Left,
 };
 
 const TOP_TO_RIGHT: Stroke = Stroke {
-    from: TOP,
-    to: RIGHT,
+    from: Side::Top,
+    to: Side::Right,
 };
 
 const TOP_TO_BOTTOM: Stroke = Stroke {
-    from: TOP,
-    to: BOTTOM,
+    from: Side::Top,
+    to: Side::Bottom,
 };
 
 const BOTTOM_TO_LEFT: Stroke = Stroke {
-    from: BOTTOM,
-    to: LEFT,
+    from: Side::Bottom,
+    to: Side::Left,
 };
 
 const BOTTOM_TO_RIGHT: Stroke = Stroke {
-    from: BOTTOM,
-    to: RIGHT,
+    from: Side::Bottom,
+    to: Side::Right,
 };
 
 const BOTTOM_TO_TOP: Stroke = Stroke {
-    from: BOTTOM,
-    to: TOP,
+    from: Side::Bottom,
+    to: Side::Top,
 };
 
 // The case table: sixteen rows by cell number, each with room for two strokes, in the order of drawing.
@@ -179,7 +167,7 @@ const CASES: [[Stroke; 2]; 16] = [
 // Stroke `k` of the cell with this number, in the order of drawing. Where the cell draws no stroke `k`, the stroke from left to left,
 // which no cell draws.
 pub fn stroke_at(number: usize, k: usize) -> Stroke
-    ensures { result ≡ numbered (stroke_at number k) }
+    ensures { result ≡ sides_of (stroke_at number k) }
 {
     if number < 16 {
         if k < 2 {

@@ -1,17 +1,21 @@
--- A number of a cell's first stroke, as a test of the cell's number that antt computes: at the numbers of a `match`'s arm, and at those that the arms have
--- left, where it is 0 past the table. Assumes nothing.
+-- A side of a cell's first stroke, as a test of the cell's number that antt computes: at the numbers of a `match`'s arm, and at those that the arms have
+-- left, where it is the left one past the table. Assumes nothing.
 use mathlib.Core.Path.{◌≡◌, refl, sym}
-use mathlib.Core.Bool.{Bool, ◌||◌}
+use mathlib.Core.Bool.{Bool, true, false, ◌||◌}
 use mathlib.Core.List.{List, [], ◌∷◌}
 use mathlib.Core.Logic.{⊎_elim}
 use Prim.Native.Nat.{ℕ, ◌≤◌}
 use native.Mathlib.Decide.{dec_lt}
 use native.Mathlib.Omega.{arith}
-use lib.Dec.{T, eqb, eqb→eq}
+use lib.Dec.{T}
 use mir.Facts.{or_yes}
 use mir.Val.{has_key}
 use types.Run.{OneOf, hit}
-use Rattle.cells.specs.Sides.{numbered, stroke_at}
+use Rattle.scope.specs.declared.Side.{Side}
+use Rattle.scope.specs.declared.Side.TheVariants.{Left}
+use Rattle.scope.specs.Cells.{same_side}
+use Rattle.scope.proofs.Sides.{same-side}
+use Rattle.cells.specs.Sides.{sides_of, stroke_at}
 use Rattle.cells.proofs.Laws.{past-the-table-nothing-is-drawn}
 use Rattle.cells.proofs.Numbers.{all, row, among, within}
 
@@ -29,24 +33,28 @@ not-armed [] test n miss t = t
 not-armed (ks ∷ arms) test n miss t =
     ⊎_elim (λ u. absurd (miss.1 (hit ks n u))) (not-armed arms test n miss.0) (or_yes (has_key ks n) (armed arms test n) t)
 
-module _ (part : ℕ → ℕ) where
-  pub at-keys : {side : ℕ} (ks : List ℕ) → T (all (λ n. eqb side (part n)) ks) → (n : ℕ) → OneOf ks n → side ≡ part n
-  at-keys {side} ks t n h = eqb→eq side (part n) (among (λ m. eqb side (part m)) ks t n h)
+passed : (b : Bool) → T b → b ≡ true
+passed true t = refl
+passed false t = absurd t
+
+module _ (part : ℕ → Side) where
+  pub at-keys : {side : Side} (ks : List ℕ) → T (all (λ n. same_side side (part n)) ks) → (n : ℕ) → OneOf ks n → side ≡ part n
+  at-keys {side} ks t n h = same-side side (part n) (passed _ (among (λ m. same_side side (part m)) ks t n h))
 
   pub at_others : (arms : List (List ℕ)) →
-      T (all (armed arms (λ n. eqb 0 (part n))) (row 0 16)) →
-      ((n : ℕ) → 16 ≤ n → part n ≡ 0) →
+      T (all (armed arms (λ n. same_side Left (part n))) (row 0 16)) →
+      ((n : ℕ) → 16 ≤ n → part n ≡ Left) →
       (n : ℕ) →
       Missed arms n →
-      0 ≡ part n
+      Left ≡ part n
   at_others arms t past n miss =
       elim (dec_lt n 16) [
         | yes h ↦
-            eqb→eq 0 (part n) (not-armed arms (λ n. eqb 0 (part n)) n miss (within (armed arms (λ n. eqb 0 (part n))) 0 16 t n (omega arith) (omega arith)))
+            same-side Left (part n) (passed _ (not-armed arms (λ n. same_side Left (part n)) n miss (within (armed arms (λ n. same_side Left (part n))) 0 16 t n (omega arith) (omega arith))))
         | no h ↦ sym (past n (omega arith))
       ]
 
 -- past the table the stroke is from Left to Left
-pub none-past-the-table : (n : ℕ) → 16 ≤ n → ((numbered (stroke_at n 0)).from ≡ 0) × ((numbered (stroke_at n 0)).to ≡ 0)
+pub none-past-the-table : (n : ℕ) → 16 ≤ n → ((sides_of (stroke_at n 0)).from ≡ Left) × ((sides_of (stroke_at n 0)).to ≡ Left)
 unfolding stroke_at
 none-past-the-table n h = rw (past-the-table-nothing-is-drawn n h) (refl, refl)

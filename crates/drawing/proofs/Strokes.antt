@@ -8,15 +8,17 @@ use native.Mathlib.Decide.{dec_lt}
 use native.Mathlib.Nat.{add-zero}
 use native.Mathlib.Numerals.{add-one}
 use native.Mathlib.Omega.{arith}
-use lib.Dec.{T, eqb}
-use Rattle.scope.specs.Cells.{Side, Left, Right, Top, Bottom, Stroke, ◌⟶◌, side_number, point_of, point_index, case_table, drawn}
+use lib.Dec.{T}
+use Rattle.scope.specs.declared.Side.{Side}
+use Rattle.scope.specs.declared.Side.TheVariants.{Left, Right, Top, Bottom}
+use Rattle.scope.specs.Cells.{Stroke, ◌⟶◌, same_side, point_of, point_index, case_table, drawn}
 use Rattle.cells.specs.declared.Stroke as cells
-use Rattle.cells.specs.Sides.{numbered}
+use Rattle.cells.specs.Sides.{sides_of}
 use Rattle.cells.proofs.Laws.{past-the-table-nothing-is-drawn}
 use Rattle.machine.specs.Machine.{Tables, Run, Entry, side_word, appended, prepended, started, entry_of, draw_stroke, draw_strokes}
 use Rattle.lines.specs.Values.{connected}
 use Rattle.drawing.specs.declared.Points.{Points}
-use Rattle.drawing.specs.Values.{points_of, number_drawn, side_of, stroke_of, point_at, is_met, line_at, rule_drawn, stroke_drawn}
+use Rattle.drawing.specs.Values.{points_of, number_drawn, point_at, is_met, line_at, rule_drawn, stroke_drawn}
 
 -- a stroke from side x to side y, as the next link: which rule draws it, by what the two sides have
 module _ (dx c : ℕ) (run : Run) (x y : Side) (entry : Entry) (at : Points) {from to : Bool} (at_from : from ≡ is_met x) (at-to : to ≡ is_met y) {s : ℕ}
@@ -63,14 +65,9 @@ module _ (dx c : ℕ) (run : Run) (x y : Side) (entry : Entry) (at : Points) {fr
 pub a-second-link-fits : (before after : ℕ) → after ≡ before + 1 → before + 2 < 2 ^ 32 → after + 1 < 2 ^ 32
 a-second-link-fits before after is h = omega arith
 
-the-side-comes-back : (side : Side) → side_of (side_number side) ≡ side
-the-side-comes-back Left = refl
-the-side-comes-back Right = refl
-the-side-comes-back Top = refl
-the-side-comes-back Bottom = refl
-
-pub the-stroke-comes-back : (stroke : Stroke) → stroke_of (numbered stroke) ≡ stroke
-the-stroke-comes-back (s ⟶ e) = rw (the-side-comes-back s, the-side-comes-back e)
+-- a stroke that the code has by its two sides
+pub the-stroke-comes-back : (stroke : Stroke) {code : cells.Stroke} → code ≡ sides_of stroke → (code.from ⟶ code.to) ≡ stroke
+the-stroke-comes-back (s ⟶ e) is = rw is
 
 pub the-point-of-a-side : (dx c r : ℕ) (side : Side) → point_at (points_of dx c r) side ≡ point_index dx (point_of c r side)
 the-point-of-a-side dx c r Left = refl
@@ -80,7 +77,7 @@ the-point-of-a-side dx c r Bottom = refl
 
 -- a stroke that does not end on the side where it starts
 abbrev pub crosses : Stroke → Bool
-crosses (s ⟶ e) = not (eqb (side_number s) (side_number e))
+crosses (s ⟶ e) = not (same_side s e)
 
 the-rule-is-the-machines : (dx c : ℕ) (entry : Entry) (at : Points) (t : Tables) (k : ℕ) (s e : Side) →
     T (crosses (s ⟶ e)) →
@@ -103,7 +100,7 @@ the-rule-is-the-machines dx c entry at t k Bottom Right h = refl
 the-rule-is-the-machines dx c entry at t k Bottom Top h = refl
 the-rule-is-the-machines dx c entry at t k Bottom Bottom h = absurd h
 
--- a stroke of cell (c, r) that the code has by the numbers of its sides, where the cell's points are known
+-- a stroke of cell (c, r) that the code has by its two sides, where the cell's points are known
 module _ (dx c r : ℕ) (entry : Entry) where
   abbrev placed_stroke : Run → Stroke → Run
   placed_stroke run (s ⟶ e) = record {
@@ -116,10 +113,10 @@ module _ (dx c r : ℕ) (entry : Entry) where
       {at : Points} →
       at ≡ points_of dx c r →
       {code : cells.Stroke} →
-      code ≡ numbered stroke →
-      stroke_drawn dx c entry at run (stroke_of code) ≡ placed_stroke run stroke
+      code ≡ sides_of stroke →
+      stroke_drawn dx c entry at run (code.from ⟶ code.to) ≡ placed_stroke run stroke
   placed-stroke (s ⟶ e) run h {at} points code =
-      ap (stroke_drawn dx c entry at run) (ap stroke_of code ∙ the-stroke-comes-back (s ⟶ e))
+      ap (stroke_drawn dx c entry at run) (the-stroke-comes-back (s ⟶ e) code)
       ∙ rw (
         points,
         the-rule-is-the-machines dx c entry (points_of dx c r) run.tables run.next s e h,
@@ -134,9 +131,9 @@ module _ (dx c r number : ℕ) (run : Run) {n : ℕ} {entry : Entry} {at : Point
       drawn n ≡ (stroke ∷ []) →
       T (crosses stroke) →
       {code : cells.Stroke} →
-      code ≡ numbered stroke →
+      code ≡ sides_of stroke →
       {after : Run} →
-      after ≡ stroke_drawn dx c entry at run (stroke_of code) →
+      after ≡ stroke_drawn dx c entry at run (code.from ⟶ code.to) →
       after ≡ number_drawn dx run number c r
   unfolding draw_strokes
   one-stroke (s ⟶ e) row h code a = rw (a ∙ placed-stroke dx c r entry (s ⟶ e) run h points code, is, row, before)
@@ -146,11 +143,11 @@ module _ (dx c r number : ℕ) (run : Run) {n : ℕ} {entry : Entry} {at : Point
       T (crosses stroke) →
       T (crosses stroke') →
       {code code' : cells.Stroke} →
-      code ≡ numbered stroke →
-      code' ≡ numbered stroke' →
+      code ≡ sides_of stroke →
+      code' ≡ sides_of stroke' →
       {after after' : Run} →
-      after ≡ stroke_drawn dx c entry at run (stroke_of code) →
-      after' ≡ stroke_drawn dx c entry at after (stroke_of code') →
+      after ≡ stroke_drawn dx c entry at run (code.from ⟶ code.to) →
+      after' ≡ stroke_drawn dx c entry at after (code'.from ⟶ code'.to) →
       after' ≡ number_drawn dx run number c r
   unfolding draw_strokes
   two-strokes (s ⟶ e) (s' ⟶ e') row h h' code code' {after} a b =

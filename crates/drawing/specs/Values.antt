@@ -2,8 +2,9 @@
 -- its number. Assumes nothing.
 use Rattle.std.specs.Prelude.{Bool, true, false, cond, List, ℕ, zero, suc, ◌+◌, ◌≤◌, length}
 use Rattle.scope.specs.Limits.{side_limit}
-use Rattle.scope.specs.Cells.{Side, Left, Right, Top, Bottom, Stroke, ◌⟶◌, point_of, point_index, drawn}
-use Rattle.cells.specs.declared.Stroke as cells
+use Rattle.scope.specs.declared.Side.{Side}
+use Rattle.scope.specs.declared.Side.TheVariants.{Left, Right, Top, Bottom}
+use Rattle.scope.specs.Cells.{Stroke, ◌⟶◌, point_of, point_index, drawn}
 use Rattle.machine.specs.Machine.{Tables, Entry, side_word, started, appended, prepended, entry_of, draw_strokes}
 use Rattle.machine.specs.Machine as machine
 use Rattle.lines.specs.Values.{tables_of, connected}
@@ -35,16 +36,6 @@ number_drawn dx run number c r = record {
   tables = draw_strokes dx c r (entry_of dx run.tables.lines c) run.tables (drawn number) run.next;
   next = run.next + length (drawn number);
 }
-
--- a side by its number, and the stroke of two numbers
-abbrev pub side_of : ℕ → Side
-side_of zero = Left
-side_of (suc zero) = Right
-side_of (suc (suc zero)) = Top
-side_of (suc (suc (suc n))) = Bottom
-
-abbrev pub stroke_of : cells.Stroke → Stroke
-stroke_of stroke = side_of stroke.from ⟶ side_of stroke.to
 
 -- what a side has: its point, whether a line may end or start there before the cell is drawn, and that line
 abbrev pub point_at : Points → Side → ℕ

@@ -3,26 +3,21 @@
 #![tactic(auto)]
 
 ghost use Rattle.std.specs.Prelude.{◌≡◌, ◌+◌, ◌-◌, ◌^◌, ◌<◌};
-ghost use Rattle.cells.specs.Sides.{numbered, stroke_at};
+ghost use Rattle.scope.specs.Cells.{◌⟶◌};
+ghost use Rattle.cells.specs.Sides.{sides_of, stroke_at};
 ghost use Rattle.machine.specs.Machine.{side_word};
 ghost use Rattle.lines.specs.Values.{edges_of};
-ghost use Rattle.drawing.specs.Values.{Within, points_of, run_of, number_drawn, side_of, point_at, is_met, line_at, stroke_of, stroke_drawn};
+ghost use Rattle.drawing.specs.Values.{Within, points_of, run_of, number_drawn, point_at, is_met, line_at, stroke_drawn};
 
-use cells::{BOTTOM, LEFT, RIGHT, Stroke, TOP, point_index, stroke_at};
+use cells::{Stroke, point_index, stroke_at};
 use lines::{Entry, Progress, append, connect, entry_of, prepend, start};
+use scope::Side;
 
 // How far the pass has come: the progress of stitching, and the number of the next link.
 #[derive(Clone, Copy)]
 pub struct Run {
     pub progress: Progress,
     pub next: u32,
-}
-
-// One less, and 0 for 0.
-fn one_before(n: u32) -> u32
-    ensures { result ≡ n - 1 }
-{
-    if n == 0 { 0 } else { n - 1 }
 }
 
 // The indexes of the points on a cell's four sides.
@@ -42,89 +37,88 @@ pub fn points_of(dx: u32, c: u32, r: u32) -> Points
     let x = 2 * c;
     let y = 2 * r;
     Points {
-        left: point_index(one_before(x), y, dx),
+        left: point_index(x.saturating_sub(1), y, dx),
         right: point_index(x + 1, y, dx),
-        top: point_index(x, one_before(y), dx),
+        top: point_index(x, y.saturating_sub(1), dx),
         bottom: point_index(x, y + 1, dx),
     }
 }
 
 // The index of the point on a side.
-pub fn point_at(at: Points, side: u8) -> u32
-    ensures { result ≡ point_at at (side_of side) }
+pub fn point_at(at: Points, side: Side) -> u32
+    ensures { result ≡ point_at at side }
 {
     match side {
-        LEFT => at.left,
-        RIGHT => at.right,
-        TOP => at.top,
-        _ => at.bottom,
+        Side::Left => at.left,
+        Side::Right => at.right,
+        Side::Top => at.top,
+        Side::Bottom => at.bottom,
     }
 }
 
 // Whether a line may end or start on a side before the cell is drawn: on the left and the top.
-pub fn meets(side: u8) -> bool
-    ensures { result ≡ is_met (side_of side) }
+pub fn meets(side: Side) -> bool
+    ensures { result ≡ is_met side }
 {
     match side {
-        LEFT => true,
-        TOP => true,
-        _ => false,
+        Side::Left | Side::Top => true,
+        Side::Right | Side::Bottom => false,
     }
 }
 
 // The slot of the line on a side that has one.
-pub fn line_at(met: Entry, side: u8) -> u32
-    ensures { result ≡ line_at (edges_of met) (side_of side) }
+pub fn line_at(met: Entry, side: Side) -> u32
+    ensures { result ≡ line_at (edges_of met) side }
 {
     match side {
-        LEFT => met.left,
+        Side::Left => met.left,
         _ => met.top,
     }
 }
 
 // The frontier word of a side of a cell in column `c`.
-pub fn word_at(dx: u32, c: u32, side: u8) -> usize
-    ensures { result ≡ side_word dx c (side_of side) }
+#[tactic(auto, unfolding(machine::specs::Machine::side_word))]
+pub fn word_at(dx: u32, c: u32, side: Side) -> usize
+    ensures { result ≡ side_word dx c side }
 {
     match side {
-        LEFT => dx as usize + 1,
-        RIGHT => dx as usize + 1,
-        _ => c as usize,
+        Side::Left | Side::Right => dx as usize + 1,
+        Side::Top | Side::Bottom => c as usize,
     }
 }
 
 // The side where the first stroke of the cell with this number starts: the left one where it draws none. No arm has two numbers in a row, so that the compiler
 // takes each arm for a list of numbers.
-fn first_from(number: usize) -> u8
-    ensures { result ≡ (numbered (stroke_at number 0)).from }
+fn first_from(number: usize) -> Side
+    ensures { result ≡ (sides_of (stroke_at number 0)).from }
 {
     match number {
-        1 | 5 | 9 | 13 => BOTTOM,
-        2 | 11 => RIGHT,
-        3 => RIGHT,
-        4 | 6 => TOP,
-        7 => TOP,
-        _ => LEFT,
+        1 | 5 | 9 | 13 => Side::Bottom,
+        2 | 11 => Side::Right,
+        3 => Side::Right,
+        4 | 6 => Side::Top,
+        7 => Side::Top,
+        _ => Side::Left,
     }
 }
 
 // The side where it ends.
-fn first_to(number: usize) -> u8
-    ensures { result ≡ (numbered (stroke_at number 0)).to }
+fn first_to(number: usize) -> Side
+    ensures { result ≡ (sides_of (stroke_at number 0)).to }
 {
     match number {
-        2 | 6 | 14 => BOTTOM,
-        4 | 12 => RIGHT,
-        13 => RIGHT,
-        8 | 10 => TOP,
-        9 | 11 => TOP,
-        _ => LEFT,
+        2 | 6 | 14 => Side::Bottom,
+        4 | 12 => Side::Right,
+        13 => Side::Right,
+        8 | 10 => Side::Top,
+        9 | 11 => Side::Top,
+        _ => Side::Left,
     }
 }
 
 // The first stroke of the cell with this number, read without the case table, which a number that is not known beforehand makes dear.
 pub fn first_stroke(number: usize) -> Stroke
-    ensures { result ≡ numbered (stroke_at number 0) }
+    ensures { result ≡ sides_of (stroke_at number 0) }
 {
     Stroke {
         from: first_from(number),
@@ -146,7 +140,7 @@ fn draw_stroke(
 ) -> Run
     requires { before.next + 1 < 2 ^ 32 }
     ensures { run_of lines.new links.new result
-        ≡ stroke_drawn dx c (edges_of met) at (run_of lines.old links.old before) (stroke_of stroke) }
+        ≡ stroke_drawn dx c (edges_of met) at (run_of lines.old links.old before) (stroke.from ⟶ stroke.to) }
 {
     let p = before.progress;
     let k = before.next;
@@ -161,11 +155,10 @@ fn draw_stroke(
     let we = word_at(dx, c, to);
     if meets(from) {
         if meets(to) {
-            if from == LEFT {
-                let progress = connect(lines, links, p, dx, k, at.left, met.left, g);
-                return Run { progress, next };
-            }
-            let progress = connect(lines, links, p, dx, k, at.top, met.top, g);
+            let progress = match from {
+                Side::Left => connect(lines, links, p, dx, k, at.left, met.left, g),
+                _ => connect(lines, links, p, dx, k, at.top, met.top, g),
+            };
             return Run { progress, next };
         }
         let progress = append(lines, links, p, dx, k, s, f, e, we);

@@ -10,13 +10,12 @@ use native.Mathlib.Omega.{arith}
 use borrow.Author.Tests.{lt-ltb, le-ltb}
 use lib.ListN.{length}
 use Rattle.scope.specs.Terrain.{Sheet}
-use Rattle.scope.specs.Cells.{Stroke, drawn, cell_number}
+use Rattle.scope.specs.Cells.{Stroke, ◌⟶◌, drawn, cell_number}
 use Rattle.cells.specs.declared.Stroke as cells
-use Rattle.cells.specs.Sides.{numbered, stroke_at}
+use Rattle.cells.specs.Sides.{sides_of, stroke_at}
 use Rattle.words.specs.Panes.{active}
 use Rattle.words.proofs.Laws.{nothing-drawn}
 use Rattle.machine.specs.Machine.{Entry, Run, entry_of}
-use Rattle.drawing.specs.Values.{stroke_of}
 use Rattle.drawing.proofs.Strokes.{NoneOf, no-stroke, the-stroke-comes-back}
 use Rattle.scan.proofs.Rows.{Next}
 use Rattle.sweep.specs.Sweep.{swept}
@@ -37,29 +36,29 @@ module _ (dx c r number : ℕ) (g : Given) where
         number ≡ n →
         drawn n ≡ (stroke_at n 0 ∷ []) →
         {code : cells.Stroke} →
-        code ≡ numbered (stroke_at n 0) →
+        code ≡ sides_of (stroke_at n 0) →
         {after : Given} →
-        after ≡ stroke_given dx c r entry g (stroke_of code) →
+        after ≡ stroke_given dx c r entry g (code.from ⟶ code.to) →
         after ≡ number_given dx r g number c
     unfolding number_given strokes_given
     one-given {n} is row code given =
-        given ∙ ap (stroke_given dx c r entry g) (ap stroke_of code ∙ the-stroke-comes-back (stroke_at n 0)) ∙ rw (is, row, before)
+        given ∙ ap (stroke_given dx c r entry g) (the-stroke-comes-back (stroke_at n 0) code) ∙ rw (is, row, before)
 
     pub two-given : {n : ℕ} →
         number ≡ n →
         (σ σ' : Stroke) →
         drawn n ≡ (σ ∷ σ' ∷ []) →
         {code code' : cells.Stroke} →
-        code ≡ numbered σ →
-        code' ≡ numbered σ' →
+        code ≡ sides_of σ →
+        code' ≡ sides_of σ' →
         {after after' : Given} →
-        after ≡ stroke_given dx c r entry g (stroke_of code) →
-        after' ≡ stroke_given dx c r entry after (stroke_of code') →
+        after ≡ stroke_given dx c r entry g (code.from ⟶ code.to) →
+        after' ≡ stroke_given dx c r entry after (code'.from ⟶ code'.to) →
         after' ≡ number_given dx r g number c
     unfolding number_given strokes_given
     two-given is σ σ' row code code' {after} given given' =
-        given' ∙ ap (stroke_given dx c r entry after) (ap stroke_of code' ∙ the-stroke-comes-back σ')
-        ∙ ap (λ (x : Given). stroke_given dx c r entry x σ') (given ∙ ap (stroke_given dx c r entry g) (ap stroke_of code ∙ the-stroke-comes-back σ))
+        given' ∙ ap (stroke_given dx c r entry after) (the-stroke-comes-back σ' code')
+        ∙ ap (λ (x : Given). stroke_given dx c r entry x σ') (given ∙ ap (stroke_given dx c r entry g) (the-stroke-comes-back σ code))
         ∙ rw (is, row, before)
 
   -- the numbers that draw nothing
@@ -101,10 +100,11 @@ module _ (A : Sheet) (dx r : ℕ) where
       (past (swept (cell_given A dx r) from c (n + t)) (c + (n + t)) (omega arith) ∙ past-stays from c n t h)
 
   -- where the next active cell is past the last column, the word's cells are done
-  pub word-stops : {c at rest t : ℕ} {now : Given} (from : Given) → Next A 0 c at rest t → dx < c + (at + t) → now ≡ swept (cell_given A dx r) from c at →
+  pub word-stops : {c at j : ℕ} {left : List ℕ} {now : Given} (from : Given) → Next A 0 c at j left → dx < c + j → now ≡ swept (cell_given A dx r) from c at →
       now ≡ swept (cell_given A dx r) from c 64
-  word-stops {c} {at} {rest} {t} from next far so_far =
-      let whole : at + t + (64 - (at + t)) ≡ 64 = omega (arith, next.in-word) in
-      so_far ∙ sym (cells_stay (cell_given A dx r) A 0 still from c at t next.none_between)
-      ∙ sym (past-stays from c (at + t) (64 - (at + t)) far)
+  word-stops {c} {at} {j} from next far so_far =
+      let there : at + (j - at) ≡ j = omega (arith, next.further) in
+      let whole : j + (64 - j) ≡ 64 = omega (arith, next.in-word) in
+      so_far ∙ sym (cells_stay (cell_given A dx r) A 0 still from c at (j - at) next.none_between)
+      ∙ ap (swept (cell_given A dx r) from c) there ∙ sym (past-stays from c j (64 - j) far)
       ∙ ap (swept (cell_given A dx r) from c) whole

@@ -5,7 +5,8 @@ use mathlib.Core.Bool.{Bool, true, false}
 use mathlib.Core.List.{List}
 use Prim.Native.Nat.{ℕ}
 use borrow.Author.Tests.{eq-eqb, ne_eqb}
-use Rattle.scope.specs.Cells.{Side, ◌⟶◌, point_of, point_index}
+use Rattle.scope.specs.declared.Side.{Side}
+use Rattle.scope.specs.Cells.{◌⟶◌, point_of, point_index}
 use Rattle.machine.specs.Machine.{Tables, Entry, side_word, started, appended, prepended, joined}
 use Rattle.lines.specs.declared.Progress.{Progress}
 use Rattle.lines.specs.Values.{tables_of}

@@ -3,7 +3,7 @@
 use mathlib.Core.Path.{◌≡◌, refl, sym, ap, ◌∙◌}
 use mathlib.Core.List.{List, ◌++◌}
 use Prim.Native.Nat.{ℕ, zero, suc, ◌+◌, ◌-◌, ◌*◌, ◌≤◌, ◌<◌}
-use native.Mathlib.Numerals.{add-one}
+use native.Mathlib.Numerals.{add-one, unary_clauses}
 use native.Mathlib.Omega.{arith}
 use lib.ListN.{length, set}
 use lib.Seq.{sets, length-sets}
@@ -37,49 +37,49 @@ module _ (dx : ℕ) (links : List ℕ) (first size end : ℕ) (start : List ℕ)
   abbrev closing : List ℕ
   closing = index_words dx end ++ point_words dx links first
 
-  -- left links are to be walked, from link k on, and their points go to the word at place and on
-  pub record RingLeft (points : List ℕ) (k place left : ℕ) : Type 0 where
-    pub room : place + 2 * left ≡ at + 2 * size
-    pub leaves : sets start at (ring_out dx links first size end) ≡ sets points place (chain_words dx links k left ++ closing)
+  -- the points of i links are stored, and those of the others are to go behind them, from link k on
+  pub record RingLeft (points : List ℕ) (k i : ℕ) : Type 0 where
+    pub leaves : sets start at (ring_out dx links first size end) ≡ sets points (at + 2 * i) (chain_words dx links k (size - i) ++ closing)
 
-  pub ring-begins : RingLeft start first at size
+  pub ring-begins : RingLeft start first 0
   unfolding ring_out
-  ring-begins = record { room = refl; leaves = refl }
+  ring-begins = record { leaves = simp unary_clauses }
 
-  module _ {points : List ℕ} {k place left : ℕ} (s : RingLeft points k place left) where
+  module _ {points : List ℕ} {k i : ℕ} (s : RingLeft points k i) where
     pub ring-room : length points ≡ length start
     ring-room =
-        sym (length-sets points place (chain_words dx links k left ++ closing)) ∙ sym (ap length s.leaves)
+        sym (length-sets points (at + 2 * i) (chain_words dx links k (size - i) ++ closing)) ∙ sym (ap length s.leaves)
         ∙ length-sets start at (ring_out dx links first size end)
 
     -- where the points end nothing more is stored
-    pub ring-stops : length points ≤ place → points ≡ sets start at (ring_out dx links first size end)
-    ring-stops short = sym (s.leaves ∙ stores-past-the-end points place (chain_words dx links k left ++ closing) short)
+    pub ring-stops : length points ≤ at + 2 * i → points ≡ sets start at (ring_out dx links first size end)
+    ring-stops short = sym (s.leaves ∙ stores-past-the-end points (at + 2 * i) (chain_words dx links k (size - i) ++ closing) short)
 
     pub ring-next : {points' : List ℕ} {index next : ℕ} →
-        0 < left →
+        i < size →
         index ≡ link_point links k →
-        points' ≡ sets points place (index_words dx index) →
+        points' ≡ sets points (at + 2 * i) (index_words dx index) →
         next ≡ link_next links k →
-        RingLeft points' next (place + 2) (left - 1)
+        RingLeft points' next (i + 1)
     ring-next {points'} {index} {next} more is-index stored is-next =
+        let further : at + 2 * (i + 1) ≡ at + 2 * i + 2 = omega arith in
+        let fewer : size - (i + 1) ≡ size - i - 1 = omega arith in
         record {
-          room = omega (arith, s.room);
-          leaves = s.leaves ∙ ap (sets points place) (one_link dx links closing k left more)
-              ∙ index-first dx (link_point links k) points place (chain_words dx links (link_next links k) (left - 1) ++ closing)
-              ∙ rw (stored, is-index, is-next);
+          leaves = s.leaves ∙ ap (sets points (at + 2 * i)) (one_link dx links closing k (size - i) (omega arith))
+              ∙ index-first dx (link_point links k) points (at + 2 * i) (chain_words dx links (link_next links k) (size - i - 1) ++ closing)
+              ∙ rw (stored, is-index, is-next, further, fewer);
         }
 
     pub ring-ends : {points' points'' : List ℕ} {index : ℕ} →
-        left ≤ 0 →
-        points' ≡ sets points place (index_words dx end) →
+        i ≡ size →
+        points' ≡ sets points (at + 2 * size) (index_words dx end) →
         index ≡ link_point links first →
-        points'' ≡ sets points' (place + 2) (index_words dx index) →
+        points'' ≡ sets points' (at + 2 * size + 2) (index_words dx index) →
         points'' ≡ sets start at (ring_out dx links first size end)
     unfolding chain_words point_words
-    ring-ends none stored is-index closed =
-        let none' : left ≡ 0 = omega arith in
-        sym (rw none' at s.leaves ∙ index-first dx end points place (point_words dx links first) ∙ rw (closed, stored, is-index))
+    ring-ends all stored is-index closed =
+        let none : size - size ≡ 0 = omega arith in
+        sym (rw (all, none) at s.leaves ∙ index-first dx end points (at + 2 * size) (point_words dx links first) ∙ rw (closed, stored, is-index))
 
 -- ---- the frontier
 

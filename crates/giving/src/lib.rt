@@ -5,11 +5,12 @@
 
 ghost use Rattle.std.specs.Prelude.{◌≡◌, ◌+◌, ◌-◌, ◌^◌, ◌<◌};
 ghost use Rattle.std.proofs.lemmas.List.Edits.{sets};
+ghost use Rattle.scope.specs.Cells.{◌⟶◌};
 ghost use Rattle.scope.specs.Room.{directory_words};
 ghost use Rattle.words.specs.Panes.{Shows, changes_in};
 ghost use Rattle.machine.specs.Machine.{word_of};
 ghost use Rattle.lines.specs.Values.{edges_of};
-ghost use Rattle.drawing.specs.Values.{Within, points_of, stroke_of};
+ghost use Rattle.drawing.specs.Values.{Within, points_of};
 ghost use Rattle.sweep.specs.Sweep.{between, swept};
 ghost use Rattle.giving.specs.Giving.{link_taken, stock_after, ring_out, given_record, ring_given, stroke_given, number_given, cell_given, row_given, slots_filed};
 ghost use Rattle.giving.specs.Values.{given_of};
@@ -24,7 +25,7 @@ use measuring::{area_of, put_area};
 use packing::{next_link, put_index, put_record};
 use scan::ROW_WORDS;
 use sweep::row_word;
-use words::{Pane, SAMPLES, bit_at, changes_in, number_in, pane_of};
+use words::{Pane, SAMPLES, bit_at, changes_in, number_in, pane_of, set_bits};
 
 // How far the drawing has come: the open lines; of the links the first free one, how many were ever used and how many are held; and the rings given out
 // so far with their points.
@@ -52,21 +53,15 @@ fn stock_after(links: &[u32], p: Play) -> Play
     let held = word_of(p.held as u64 + 1);
     if p.held < p.fresh {
         return Play {
-            count: p.count,
             spare: next_link(links, p.spare),
-            fresh: p.fresh,
             held,
-            rings: p.rings,
-            points: p.points,
+            ..p
         };
     }
     Play {
-        count: p.count,
-        spare: p.spare,
         fresh: word_of(p.fresh as u64 + 1),
         held,
-        rings: p.rings,
-        points: p.points,
+        ..p
     }
 }
 
@@ -88,26 +83,8 @@ fn with_count(p: Play, after: Progress) -> Play
 {
     Play {
         count: after.count,
-        spare: p.spare,
-        fresh: p.fresh,
-        held: p.held,
-        rings: p.rings,
-        points: p.points,
+        ..p
     }
-}
-
-// One less, and 0 for 0.
-fn one_less(n: u32) -> u32
-    ensures { result ≡ n - 1 }
-{
-    if n == 0 { 0 } else { n - 1 }
-}
-
-// One number less another, and 0 where it is larger.
-fn less(n: u32, m: u32) -> u32
-    ensures { result ≡ n - m }
-{
-    if n < m { 0 } else { n - m }
 }
 
 // Stores the start points of `size` links from link `first` on, then the point of index `end`, then the first point again, two words a point, from word `at`
@@ -125,19 +102,17 @@ fn write_ring(
     ensures { points.new ≡ sets points.old at (ring_out dx links.now first size end) }
 {
     let mut k = first;
-    let mut place = at;
-    let mut left = size;
-    while 0 < left {
+    for i in 0..size as usize {
+        let place = at + 2 * i;
         if points.len() <= place {
             return;
         }
         put_index(points, dx, link_point(links, k), place);
-        place += 2;
         k = next_link(links, k);
-        left -= 1;
     }
-    put_index(points, dx, end, place);
-    put_index(points, dx, link_point(links, first), place + 2);
+    let last = at + 2 * (size as usize);
+    put_index(points, dx, end, last);
+    put_index(points, dx, link_point(links, first), last + 2);
 }
 
 // Stores the record of the ring that was just written, of `size` links: its first point, its point count, class and no owner, and then its area.
@@ -159,10 +134,10 @@ fn after_ring(p: Play, count: u32, first: u32, size: u32) -> Play
     Play {
         count,
         spare: first,
-        fresh: p.fresh,
-        held: less(p.held, size),
+        held: p.held.saturating_sub(size),
         rings: word_of(p.rings as u64 + 1),
         points: word_of(p.points as u64 + size as u64 + 2),
+        ..p
     }
 }
 
@@ -192,7 +167,7 @@ fn give_ring(
     );
     put_ring_record(points, directory, p, size);
     put_next(links, line.last, p.spare);
-    let count = one_less(p.count);
+    let count = p.count.saturating_sub(1);
     release(lines, links, dx, count, f);
     after_ring(p, count, line.first, size)
 }
@@ -213,7 +188,7 @@ fn give_stroke(
 ) -> Play
     requires { at ≡ points_of dx c r }
     ensures { given_of lines.new links.new points.new directory.new result
-        ≡ stroke_given dx c r (edges_of met) (given_of lines.old links.old points.old directory.old p) (stroke_of stroke) }
+        ≡ stroke_given dx c r (edges_of met) (given_of lines.old links.old points.old directory.old p) (stroke.from ⟶ stroke.to) }
 {
     let s = point_at(at, stroke.from);
     let e = point_at(at, stroke.to);
@@ -504,19 +479,12 @@ fn give_changes(
         ≡ swept (cell_given (between upper.now lower.now) dx r) (given_of lines.old links.old points.old directory.old p) c 64 }
 {
     let mut play = p;
-    let mut rest = changes;
-    let mut at: u32 = 0;
-    while rest != 0 {
-        let skipped = u64::trailing_zeros(rest);
-        let j = at + skipped;
+    for j in set_bits(changes) {
         if dx < c + j {
             return play;
         }
         let number = number_in(pane, j);
-        let next = give_cell(lines, links, points, directory, play, dx, c + j, r, number);
-        play = next;
-        rest = (rest >> skipped) / 2;
-        at = j + 1;
+        play = give_cell(lines, links, points, directory, play, dx, c + j, r, number);
     }
     play
 }
@@ -540,13 +508,12 @@ pub fn give_row(
     let mut play = p;
     let mut upper_left = false;
     let mut lower_left = false;
-    let mut w = 0;
-    while SAMPLES * w <= dx as usize {
+    for w in 0..dx as usize / SAMPLES + 1 {
         let upper_word = row_word(upper, w);
         let lower_word = row_word(lower, w);
         let pane = pane_of(upper_word, lower_word, upper_left, lower_left);
         let changes = changes_in(pane);
-        let next = give_changes(
+        play = give_changes(
             upper,
             lower,
             dx,
@@ -560,10 +527,8 @@ pub fn give_row(
             directory,
             play,
         );
-        play = next;
         upper_left = bit_at(upper_word, 63);
         lower_left = bit_at(lower_word, 63);
-        w += 1;
     }
     play
 }
@@ -572,12 +537,10 @@ pub fn give_row(
 pub fn file_lines(lines: &mut [u32], links: &[u32], dx: u32, count: u32)
     ensures { lines.new ≡ slots_filed dx links.now lines.old count }
 {
-    let mut i: u32 = 0;
-    while i < count {
+    for i in 0..count {
         let line = slot_at(lines, dx, i);
         let start = column_word(dx, link_point(links, line.first));
         put(lines, start, i);
         put(lines, column_word(dx, line.end), i);
-        i += 1;
     }
 }

@@ -11,7 +11,7 @@ ghost use Rattle.isoringbuilder.specs.Verdict.{room_verdict};
 ghost use Rattle.isoringbuilder.specs.Pass.{packed, Passed, Packed, PackedWhole};
 
 use error::Refusal;
-use grid::grid_fit;
+use grid::{Grid, grid_fit};
 use limits::RECORD_STRIDE;
 use packing::{clear, write_rings};
 use scan::{TILES, scan};
@@ -72,7 +72,8 @@ fn pass_over(
     ensures { Passed values.now level dx dy lines.old links.old result lines.new links.new }
 {
     let mut marks = [0u8; TILES];
-    let counts = scan(values, level, dx, dy, &mut marks);
+    let grid = Grid { values, dx, dy };
+    let counts = scan(grid, level, &mut marks);
     let segments = counts.segments;
     let peak = counts.peak;
     if lines.len() < open_words(dx, peak) {
@@ -81,7 +82,7 @@ fn pass_over(
     if links.len() < link_words(segments) {
         return Err(Refusal::LinksShort);
     }
-    let progress = stitch(values, level, dx, dy, &marks, lines, links);
+    let progress = stitch(grid, level, &marks, lines, links);
     Ok(Drawing {
         segments,
         peak,

@@ -7,7 +7,9 @@ use Prim.Native.Nat.{ℕ, zero, suc, ◌+◌, ◌≤◌}
 use native.Mathlib.Omega.{arith}
 use lib.ListN.{length}
 use Rattle.scope.specs.Terrain.{Sheet}
-use Rattle.scope.specs.Cells.{Side, Left, Right, Top, Bottom, Stroke, ◌⟶◌, Segment, placed, on_finished, number_of, case_table, drawn, met, closed, cell_number, cell_segments}
+use Rattle.scope.specs.declared.Side.{Side}
+use Rattle.scope.specs.declared.Side.TheVariants.{Left, Right, Top, Bottom}
+use Rattle.scope.specs.Cells.{Stroke, ◌⟶◌, Segment, placed, on_finished, number_of, case_table, drawn, met, closed, cell_number, cell_segments}
 use Rattle.scope.specs.Stitching.{nothing, stitch_all}
 use Rattle.scope.specs.Drawing.{along, down, up_to, with_cell, segments_after, drawing_after, open_after, rings_after}
 use Rattle.laws.proofs.Total.{total}

@@ -7,13 +7,15 @@ use Prim.Native.Nat.{ℕ, suc, ◌+◌, ◌≤◌}
 use native.Mathlib.Omega.{arith}
 use lib.ListN.{length}
 use Rattle.scope.specs.Terrain.{Sheet}
-use Rattle.scope.specs.Cells.{Point, Side, Left, Right, Top, Bottom, Stroke, ◌⟶◌, Segment, same_point, when, point_of, placed, on_finished, met}
+use Rattle.scope.specs.declared.Side.{Side}
+use Rattle.scope.specs.declared.Side.TheVariants.{Left, Right, Top, Bottom}
+use Rattle.scope.specs.Cells.{same_side, Point, Stroke, ◌⟶◌, Segment, same_point, when, point_of, placed, on_finished, met}
 use Rattle.scope.specs.Stitching.{Drawing, nothing, stitch, stitch_all}
 use Rattle.laws.proofs.Total.{total, total-append}
 use Rattle.laws.proofs.Ends.{and_left, and_right, same-eq}
 use Rattle.laws.proofs.Counting.{same, Balanced, Fresh, fewer-or-more, balanced-after}
 use Rattle.laws.proofs.Edges.{Outside, ends_on, begins_on, sides_apart}
-use Rattle.laws.proofs.Strokes.{Role, begin, finish, other, side_by, same_side, leaving, fitting, head-fits, rest-fits, other-side}
+use Rattle.laws.proofs.Strokes.{Role, begin, finish, other, side_by, leaving, fitting, head-fits, rest-fits, other-side}
 use Rattle.laws.proofs.Marks.{point_by, marked, marked-ended, marked-begun, on_side, drawable, point-of-stroke}
 
 -- segments drawn one after the other

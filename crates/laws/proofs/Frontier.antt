@@ -8,12 +8,14 @@ use native.Mathlib.Nat.{not-suc-le-zero}
 use native.Mathlib.Decide.{dec_le, dec_lt, ℕ_discrete}
 use native.Mathlib.Omega.{arith}
 use Rattle.scope.specs.Terrain.{Sheet}
-use Rattle.scope.specs.Cells.{Point, Side, Left, Right, Top, Bottom, Stroke, Segment, same_point, when, point_of, placed, drawn, cell_number, cell_segments}
+use Rattle.scope.specs.declared.Side.{Side}
+use Rattle.scope.specs.declared.Side.TheVariants.{Left, Right, Top, Bottom}
+use Rattle.scope.specs.Cells.{same_side, Point, Stroke, Segment, same_point, when, point_of, placed, drawn, cell_number, cell_segments}
 use Rattle.scope.specs.Drawing.{segments_after}
 use Rattle.laws.proofs.Total.{total}
 use Rattle.laws.proofs.Ends.{and_left, same-eq}
 use Rattle.laws.proofs.Edges.{Outside, Cell, cell, neighbour, left-is-right, top-is-bottom}
-use Rattle.laws.proofs.Strokes.{Role, begin, finish, other, side_by, leaving, fitting, head-fits, rest-fits, strokes-fit, same_side}
+use Rattle.laws.proofs.Strokes.{Role, begin, finish, other, side_by, leaving, fitting, head-fits, rest-fits, strokes-fit}
 use Rattle.laws.proofs.Visits.{not-visited, visited-above, visited-before}
 use Rattle.laws.proofs.Marks.{point_by, marked, on_side, home_of, point-of-stroke, home-there, drawable, in_cell, measure, only-there, marked_by, across-left, across-top, across-right, across-bottom}
 use Rattle.laws.proofs.Rings.{in-columns}

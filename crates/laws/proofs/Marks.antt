@@ -6,15 +6,17 @@ use mathlib.Core.List.{List, [], ◌∷◌, map}
 use Prim.Native.Nat.{ℕ, zero, suc, ◌+◌, ◌≤◌}
 use native.Mathlib.Nat.{not-suc-le-zero}
 use native.Mathlib.Omega.{arith}
-use borrow.Author.Tests.{eqb-true}
 use Rattle.scope.specs.Terrain.{Sheet}
-use Rattle.scope.specs.Cells.{Point, Side, Left, Right, Top, Bottom, side_number, Stroke, ◌⟶◌, Segment, same_point, when, point_of, placed, drawn, cell_number, cell_segments, on_finished}
+use Rattle.scope.specs.declared.Side.{Side}
+use Rattle.scope.specs.declared.Side.TheVariants.{Left, Right, Top, Bottom}
+use Rattle.scope.specs.Cells.{Point, same_side, Stroke, ◌⟶◌, Segment, same_point, when, point_of, placed, drawn, cell_number, cell_segments, on_finished}
 use Rattle.scope.specs.Drawing.{segments_after}
 use Rattle.laws.proofs.Total.{total}
 use Rattle.laws.proofs.Ends.{and_left, same_refl}
 use Rattle.laws.proofs.Counting.{same, ended, begun}
 use Rattle.laws.proofs.Edges.{Outside, Cell, cell, end_cell, start_cell, neighbour, ending-homes, beginning-homes, left-is-right, top-is-bottom, different, Drawable, ending-drawable, beginning-drawable}
-use Rattle.laws.proofs.Strokes.{Role, begin, finish, other, side_by, on_by, has, present, same_side, leaving, fitting, head-fits, rest-fits, strokes-fit}
+use Rattle.scope.proofs.Sides.{same-side}
+use Rattle.laws.proofs.Strokes.{Role, begin, finish, other, side_by, on_by, has, present, leaving, fitting, head-fits, rest-fits, strokes-fit}
 use Rattle.laws.proofs.Visits.{not-visited, visited-above, visited-before}
 
 -- the segment's point in a role, and how many of the segments have a point there
@@ -75,24 +77,6 @@ elsewhere role p c r free (stroke ∷ strokes) h no-side =
       elsewhere role p c r (leaving free stroke) strokes (rest-fits free stroke strokes h)
           (λ d k. no-side d (and_left (free role d) (not (same_side d (side_by role stroke))) k)),
     )
-
-same-side : (d e : Side) → same_side d e ≡ true → d ≡ e
-same-side d e h = by d e (eqb-true (side_number d) (side_number e) h)
-  where
-    back : ℕ → Side
-    back zero = Left
-    back (suc zero) = Right
-    back (suc (suc zero)) = Top
-    back (suc (suc (suc n))) = Bottom
-
-    numbered : (d : Side) → back (side_number d) ≡ d
-    numbered Left = refl
-    numbered Right = refl
-    numbered Top = refl
-    numbered Bottom = refl
-
-    by : (d e : Side) → side_number d ≡ side_number e → d ≡ e
-    by d e q = sym (numbered d) ∙ ap back q ∙ numbered e
 
 at_least_one : (role : Role) (c r : ℕ) (d : Side) (strokes : List Stroke) → has role d strokes ≡ true → 1 ≤ marked role (map (placed c r) strokes) (point_of c r d)
 unfolding marked total has

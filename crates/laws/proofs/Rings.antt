@@ -11,7 +11,9 @@ use lib.Dec.{eqb, leb}
 use lib.ListN.{length, length-append}
 use borrow.Author.Tests.{eqb-true, eq-eqb, leb-true, le-leb, not-true}
 use Rattle.scope.specs.Terrain.{Sheet}
-use Rattle.scope.specs.Cells.{Point, Side, Left, Right, Top, Bottom, Stroke, ◌⟶◌, Segment, same_point, when, point_of, placed, drawn, cell_number, cell_segments}
+use Rattle.scope.specs.declared.Side.{Side}
+use Rattle.scope.specs.declared.Side.TheVariants.{Left, Right, Top, Bottom}
+use Rattle.scope.specs.Cells.{same_side, Point, Stroke, ◌⟶◌, Segment, same_point, when, point_of, placed, drawn, cell_number, cell_segments}
 use Rattle.scope.specs.Stitching.{Line}
 use Rattle.scope.specs.Drawing.{along, down, up_to, with_cell, segments_after}
 use Rattle.laws.proofs.Total.{total, total-append}
@@ -19,7 +21,7 @@ use Rattle.laws.proofs.Ends.{and_left, and_right, point-eq, same_refl}
 use Rattle.laws.proofs.Counting.{same}
 use Rattle.laws.proofs.Conservation.{pair_sum, Each, Closed}
 use Rattle.laws.proofs.Edges.{Outside, Cell, end_cell, start_cell, first_cell, second_cell, tested}
-use Rattle.laws.proofs.Strokes.{Role, begin, finish, side_by, leaving, fitting, head-fits, rest-fits, strokes-fit, same_side}
+use Rattle.laws.proofs.Strokes.{Role, begin, finish, side_by, leaving, fitting, head-fits, rest-fits, strokes-fit}
 use Rattle.laws.proofs.Marks.{on_side, drawable, home_here}
 use Rattle.laws.proofs.Cellwise.{roles-apart}
 

@@ -6,9 +6,12 @@ use mathlib.Core.List.{List, [], ◌∷◌}
 use Prim.Native.Nat.{◌+◌, ◌*◌}
 use lib.Dec.{eqb}
 use lib.ListN.{length}
-use borrow.Author.Tests.{eqb-true, eq-eqb}
-use Rattle.scope.specs.Cells.{Side, Left, Right, Top, Bottom, side_number, Stroke, ◌⟶◌, number_of, case_table, drawn, met, on_finished}
+use borrow.Author.Tests.{eqb-true}
+use Rattle.scope.specs.declared.Side.{Side}
+use Rattle.scope.specs.declared.Side.TheVariants.{Left, Right, Top, Bottom}
+use Rattle.scope.specs.Cells.{same_side, Stroke, ◌⟶◌, number_of, case_table, drawn, met, on_finished}
 use Rattle.scope.specs.Pairs.{differ}
+use Rattle.scope.proofs.Sides.{a-side-is-itself}
 use Rattle.laws.proofs.Ends.{and_left, and_right}
 use Rattle.laws.proofs.Edges.{ending, beginning}
 
@@ -28,12 +31,8 @@ every-cell test h a b c d =
     (either-one (λ b. both (λ c. both (λ d. test a b c d)))
     (either-one (λ a. both (λ b. both (λ c. both (λ d. test a b c d)))) h a) b) c) d
 
--- equality of sides as a test
-abbrev pub same_side : Side → Side → Bool
-same_side d e = eqb (side_number d) (side_number e)
-
 pub other-side : (d e : Side) → not (same_side d e) ≡ true → d ≡ e → ⊥
-other-side d e h q = false≢true (sym (ap not (eq-eqb (side_number d) (side_number e) (ap side_number q))) ∙ h)
+other-side d e h q = false≢true (sym (ap not (ap (same_side d) (sym q) ∙ a-side-is-itself d)) ∙ h)
 
 -- begin and finish: the two ends of a segment, told apart so that each fact is said once of both
 pub data Role : Type 0 where

@@ -9,7 +9,8 @@ use lib.Dec.{eqb}
 use lib.ListN.{length, get_or}
 use borrow.Author.Tests.{eq-eqb, ne_eqb}
 use Rattle.scope.specs.Terrain.{Sheet}
-use Rattle.scope.specs.Cells.{Point, Segment, Left, Top, Bottom, point_of, when}
+use Rattle.scope.specs.declared.Side.TheVariants.{Left, Top, Bottom}
+use Rattle.scope.specs.Cells.{Point, Segment, point_of, when}
 use Rattle.scope.specs.Stitching.{Line, Drawing, starts_at, ends_at, nothing, stitch_all}
 use Rattle.scope.specs.Drawing.{segments_after, drawing_after}
 use Rattle.laws.proofs.Total.{total, total-at, total-two, tally}

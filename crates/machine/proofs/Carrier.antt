@@ -6,7 +6,8 @@ use mathlib.Core.List.{List, [], ◌∷◌, ◌++◌}
 use Prim.Native.Nat.{ℕ, suc, ◌+◌, ◌<◌}
 use lib.Dec.{eqb}
 use lib.ListN.{length, get_or, length-set, length-append}
-use Rattle.scope.specs.Cells.{Point, Left, Right, Top, Bottom, Stroke, ◌⟶◌, point_of, point_index, indexed_point}
+use Rattle.scope.specs.declared.Side.TheVariants.{Left, Right, Top, Bottom}
+use Rattle.scope.specs.Cells.{Point, Stroke, ◌⟶◌, point_of, point_index, indexed_point}
 use Rattle.scope.specs.Stitching as rules
 use Rattle.scope.specs.Stitching.{Drawing, starts_at, ends_at}
 use Rattle.laws.proofs.Tips.{Tip, edge_word, WordsApart}

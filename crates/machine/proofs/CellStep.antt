@@ -10,7 +10,9 @@ use lib.Dec.{eqb}
 use lib.ListN.{length, get_or}
 use borrow.Author.Tests.{eq-eqb, ne_eqb}
 use Rattle.scope.specs.Terrain.{Sheet}
-use Rattle.scope.specs.Cells.{Point, Side, Left, Right, Top, Bottom, ◌⟶◌, Segment, when, same_point, point_of, placed, on_finished, point_index, indexed_point}
+use Rattle.scope.specs.declared.Side.{Side}
+use Rattle.scope.specs.declared.Side.TheVariants.{Left, Right, Top, Bottom}
+use Rattle.scope.specs.Cells.{Point, ◌⟶◌, Segment, when, same_point, point_of, placed, on_finished, point_index, indexed_point}
 use Rattle.scope.specs.Stitching.{Line, starts_at, find, nothing, stitch_all}
 use Rattle.scope.specs.Drawing.{segments_after}
 use Rattle.laws.proofs.Total.{total, tally, found, not_found}

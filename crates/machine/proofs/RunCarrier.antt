@@ -7,7 +7,9 @@ use Prim.Native.Nat.{ℕ, suc, ◌+◌, ◌^◌, ◌≤◌, ◌<◌}
 use native.Mathlib.Omega.{arith}
 use lib.Dec.{eqb}
 use lib.ListN.{length}
-use Rattle.scope.specs.Cells.{Point, Side, Left, Right, Top, Bottom, Stroke, point_of, point_index, indexed_point}
+use Rattle.scope.specs.declared.Side.{Side}
+use Rattle.scope.specs.declared.Side.TheVariants.{Left, Right, Top, Bottom}
+use Rattle.scope.specs.Cells.{Point, Stroke, point_of, point_index, indexed_point}
 use Rattle.scope.specs.Stitching as rules
 use Rattle.scope.specs.Stitching.{Line, Drawing}
 use Rattle.laws.proofs.Tips.{edge_word}

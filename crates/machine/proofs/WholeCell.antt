@@ -8,7 +8,9 @@ use native.Mathlib.Omega.{arith}
 use lib.ListN.{length, get_or, set, length-append, length-set}
 use lib.Seq.{get_or-set_same, get_or-set_other}
 use Rattle.scope.specs.Terrain.{Sheet}
-use Rattle.scope.specs.Cells.{Point, Side, Left, Right, Top, Bottom, Stroke, ◌⟶◌, Segment, when, same_point, point_of, placed, on_finished, indexed_point}
+use Rattle.scope.specs.declared.Side.{Side}
+use Rattle.scope.specs.declared.Side.TheVariants.{Left, Right, Top, Bottom}
+use Rattle.scope.specs.Cells.{same_side, Point, Stroke, ◌⟶◌, Segment, when, same_point, point_of, placed, on_finished, indexed_point}
 use Rattle.scope.specs.Stitching as rules
 use Rattle.scope.specs.Stitching.{Line, Drawing, ends_at, nothing, stitch_all}
 use Rattle.scope.specs.Drawing.{segments_after}
@@ -16,7 +18,7 @@ use Rattle.laws.proofs.Total.{total}
 use Rattle.laws.proofs.Ends.{and_left, same-eq, same_refl, end_is, end-of-prepended, start-of-joined}
 use Rattle.laws.proofs.Counting.{same, Fresh}
 use Rattle.laws.proofs.Edges.{Outside}
-use Rattle.laws.proofs.Strokes.{Role, begin, finish, side_by, same_side, leaving, fitting, head-fits, rest-fits}
+use Rattle.laws.proofs.Strokes.{Role, begin, finish, side_by, leaving, fitting, head-fits, rest-fits}
 use Rattle.laws.proofs.Marks.{point_by, marked, on_side}
 use Rattle.laws.proofs.Cellwise.{Sound, sound-after, marked_append, Ready, fresh, ready-after}
 use Rattle.laws.proofs.Tips.{Tip, tip_by, edge_word, WordsApart, spent-is-no-tip}

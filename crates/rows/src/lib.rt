@@ -11,6 +11,7 @@ ghost use Rattle.rows.specs.Values.{outcome_of};
 
 use error::Refusal;
 use giving::{Play, file_lines, give_row};
+use grid::Grid;
 use isoringbuilder::{link_words, open_words};
 use limits::{RECORD_STRIDE, SIDE_LIMIT};
 use packing::clear;
@@ -87,9 +88,10 @@ fn sample_words(values: &[f64], level: Level, dx: usize, row: &mut [u64; ROW_WOR
     requires row_value { row.old ≡ no_words }
     ensures { row.new ≡ row_words level values.now dx }
 {
+    let grid = Grid { values, dx, dy: 1 };
     let mut w = 0;
     while SAMPLES * w <= dx {
-        row[w] = lower_word(values, level, dx, 1, 0, SAMPLES * w);
+        row[w] = lower_word(grid, level, 0, SAMPLES * w);
         w += 1;
     }
 }

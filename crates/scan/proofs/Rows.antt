@@ -2,21 +2,19 @@
 -- Callers cite these of every loop over a row. The steps are laws of packed bits. Assumes nothing.
 use mathlib.Core.Path.{◌≡◌, refl, sym, ◌∙◌, ap, subst}
 use mathlib.Core.Bool.{Bool, true, false, false≢true}
-use mathlib.Core.List.{List}
-use Prim.Native.Nat.{ℕ, zero, suc, ◌+◌, ◌-◌, ◌*◌, ◌/◌, ◌^◌, ◌≤◌, ◌<◌}
-use native.Mathlib.Nat.{add-zero}
+use mathlib.Core.List.{List, [], ◌∷◌}
+use Prim.Native.Nat.{ℕ, zero, suc, ◌+◌, ◌-◌, ◌*◌, ◌≤◌, ◌<◌}
 use native.Mathlib.Decide.{dec_lt, ℕ_discrete}
 use native.Mathlib.Omega.{arith}
-use lib.Count.{count_trailing_zeros}
 use lib.ListN.{length, get_or, set, replicate, length-set, length-replicate}
 use lib.Seq.{get_or-set_same, get_or-set_other}
 use Rattle.scope.specs.Limits.{side_limit}
 use Rattle.scope.specs.Terrain.{Sheet}
-use Rattle.words.specs.Bits.{packed, bit_at}
+use Rattle.words.specs.Bits.{packed, bit_at, holding, set_bits}
 use Rattle.words.specs.Panes.{active, Shows, pane_of, changes_in}
 use Rattle.words.specs.declared.Pane.{Pane}
-use Rattle.words.proofs.Packing.{packed_alike}
-use Rattle.words.proofs.Laws.{none-packed, bit-is-test, pane-shows, changes-shown, Found, lowest-found, none_found, rows-go-on, words-agree}
+use Rattle.words.proofs.Laws.{none-packed, bit-is-test, pane-shows, changes-shown, none_found, rows-go-on, words-agree}
+use Rattle.words.proofs.Places.{packed-held, First, first-is, none-is-left}
 use Rattle.laws.proofs.Edges.{Outside}
 use Rattle.scan.specs.Rows.{word_from, Kept, tile_of, Quiet, Noted, Marked}
 
@@ -53,48 +51,44 @@ no-words-above A out = record {
 
 -- ---- the active cells of a word
 
--- of the sixty-four cells of row r from cell c on, `at` are seen, and the bits of the rest are left
-pub record Unseen (A : Sheet) (r c at rest : ℕ) : Type 0 where
+-- of the sixty-four cells of row r from cell c on, `at` are seen, and the places of the other active ones are left
+pub record Unseen (A : Sheet) (r c at : ℕ) (left : List ℕ) : Type 0 where
   pub seen : at ≤ 64
-  pub unseen : rest ≡ packed (λ j. active A r (c + at + j)) (64 - at)
+  pub unseen : left ≡ holding (λ j. active A r (c + j)) at (64 - at)
 
--- the next active cell is t cells further on
-pub record Next (A : Sheet) (r c at rest t : ℕ) : Type 0 where
-  pub in-word : at + t < 64
-  pub none_between : (j : ℕ) → j < t → active A r (c + at + j) ≡ false
-  pub active-there : active A r (c + (at + t)) ≡ true
-  pub unseen-then : Unseen A r c (at + t + 1) (rest / 2 ^ t / 2)
+-- the next active cell is cell j, and then these are left
+pub record Next (A : Sheet) (r c at j : ℕ) (left : List ℕ) : Type 0 where
+  pub further : at ≤ j
+  pub in-word : j < 64
+  pub none_between : (k : ℕ) → k < j - at → active A r (c + at + k) ≡ false
+  pub active-there : active A r (c + j) ≡ true
+  pub unseen-then : Unseen A r c (j + 1) left
 
 module _ (A : Sheet) (r c : ℕ) where
-  pub unseen-begin : {pane : Pane} {changes : ℕ} → Shows A r c pane → changes ≡ changes_in pane → Unseen A r c 0 changes
-  unseen-begin shows e = record {
+  -- at first the set bits of the changes are left
+  pub unseen-begin : {pane : Pane} {changes : ℕ} {left : List ℕ} → Shows A r c pane → changes ≡ changes_in pane → left ≡ set_bits changes → Unseen A r c 0 left
+  unseen-begin shows e l = record {
     seen = omega arith;
-    unseen =
-        e ∙ changes-shown A r c shows
-        ∙ packed_alike (λ j. active A r (c + j)) (λ j. active A r (c + 0 + j)) 64 (λ j l. ap (λ (k : ℕ). active A r (k + j)) (sym (add-zero c)));
+    unseen = l ∙ ap set_bits (e ∙ changes-shown A r c shows) ∙ packed-held (λ j. active A r (c + j));
   }
 
-  pub unseen-next : {at rest : ℕ} → Unseen A r c at rest → (rest ≡ 0 → ⊥) → Next A r c at rest (count_trailing_zeros 64 rest)
-  unseen-next {at} {rest} u some =
-      let f : ℕ → Bool = λ j. active A r (c + at + j) in
-      let t : ℕ = count_trailing_zeros 64 rest in
-      let there : Found (λ j. active A r (c + at + j)) (64 - at) rest (count_trailing_zeros 64 rest) =
-      rw u.unseen (lowest-found (λ j. active A r (c + at + j)) (64 - at) 64 (omega arith) (λ z. some (u.unseen ∙ z))) in
+  pub unseen-next : {at j : ℕ} {left more : List ℕ} → Unseen A r c at left → left ≡ j ∷ more → Next A r c at j more
+  unseen-next {at} {j} {left} {more} u e =
+      let first : First (λ j. active A r (c + j)) at (64 - at) j more = first-is (λ j. active A r (c + j)) at (64 - at) (sym u.unseen ∙ e) in
       record {
-        in-word = omega (arith, there.among);
-        none_between = there.none_before;
-        active-there = ap (active A r) (omega arith) ∙ there.found;
+        further = first.not-before;
+        in-word = omega (arith, first.in-range, u.seen);
+        none_between = λ k l. ap (active A r) (omega arith) ∙ first.none_between (at + k) (omega arith) (omega arith);
+        active-there = first.holds;
         unseen-then = record {
-          seen = omega (arith, there.among);
-          unseen =
-              there.left_over
-              ∙ packed_alike (λ j. active A r (c + at + suc (t + j))) (λ j. active A r (c + (at + t + 1) + j)) (64 - at - suc t) (λ j l. ap (active A r) (omega arith))
-              ∙ ap (packed (λ j. active A r (c + (at + t + 1) + j))) (omega arith);
+          seen = omega (arith, first.in-range, u.seen);
+          unseen = first.then-more ∙ ap (holding (λ j. active A r (c + j)) (j + 1)) (omega (arith, u.seen));
         };
       }
 
-  pub unseen-end : {at : ℕ} → Unseen A r c at 0 → (j : ℕ) → j < 64 - at → active A r (c + at + j) ≡ false
-  unseen-end {at} u = none_found (λ j. active A r (c + at + j)) (64 - at) (sym u.unseen)
+  pub unseen-end : {at : ℕ} {left : List ℕ} → Unseen A r c at left → left ≡ [] → (j : ℕ) → j < 64 - at → active A r (c + at + j) ≡ false
+  unseen-end {at} u e j l =
+      ap (active A r) (omega arith) ∙ none-is-left (λ j. active A r (c + j)) at (64 - at) (sym u.unseen ∙ e) (at + j) (omega arith) (omega arith)
 
   -- where a pane has no changes, none of its cells is active
   pub none-changes : {pane : Pane} → Shows A r c pane → changes_in pane ≡ 0 → (j : ℕ) → j < 64 → active A r (c + j) ≡ false

@@ -2,7 +2,7 @@
 -- The steps are the laws of the drawing; the bound on the segments is two for each cell. Assumes nothing.
 use mathlib.Core.Path.{◌≡◌, refl, sym, ◌∙◌, ap}
 use mathlib.Core.Bool.{false}
-use mathlib.Core.List.{List, append-nil}
+use mathlib.Core.List.{List, [], append-nil}
 use Prim.Native.Nat.{ℕ, zero, suc, ◌+◌, ◌-◌, ◌*◌, ◌^◌, ◌≤◌, ◌<◌}
 use native.Mathlib.Nat.{add-zero, add-suc, suc-mul, mul-le-mul, le-max_right, max-eq_left}
 use native.Mathlib.Omega.{arith}
@@ -130,30 +130,30 @@ module _ (A : Sheet) {dx dy : ℕ} (out : Outside A dx dy) where
 
   -- ---- the active cells of a word
 
-  module _ {r c at rest t : ℕ} {counts : Counts} {pane : Pane} (shows : Shows A r c pane) (next : Next A r c at rest t)
+  module _ {r c at j : ℕ} {left : List ℕ} {counts : Counts} {pane : Pane} (shows : Shows A r c pane) (next : Next A r c at j left)
       (so_far : counts ≡ counts_after A dx r (c + at)) where
-    inside : c + (at + t) ≤ dx
-    inside = an-active-cell-is-inside A out r (c + (at + t)) next.active-there
+    inside : c + j ≤ dx
+    inside = an-active-cell-is-inside A out r (c + j) next.active-there
 
-    at-the-cell : counts ≡ counts_after A dx r (c + (at + t))
-    at-the-cell = so_far ∙ sym (counts-stay A dx r (c + at) t next.none_between) ∙ ap (counts_after A dx r) (omega arith)
+    at-the-cell : counts ≡ counts_after A dx r (c + j)
+    at-the-cell = so_far ∙ sym (counts-stay A dx r (c + at) (j - at) next.none_between) ∙ ap (counts_after A dx r) (omega (arith, next.further))
 
-    number_is : {number : ℕ} → number ≡ number_in pane (at + t) → number ≡ cell_number A (c + (at + t)) r
+    number_is : {number : ℕ} → number ≡ number_in pane j → number ≡ cell_number A (c + j) r
     number_is e = e ∙ number-shown A r c shows next.in-word
 
-    pub active-fits : {number : ℕ} → number ≡ number_in pane (at + t) → dx ≤ side_limit → r ≤ side_limit →
+    pub active-fits : {number : ℕ} → number ≡ number_in pane j → dx ≤ side_limit → r ≤ side_limit →
         (counts.segments + 2 < 2 ^ 32) × (counts.open_lines + 2 < 2 ^ 32) × (closed number ≤ counts.open_lines + opened number)
     unfolding counts_after
-    active-fits e hx hr = rw (at-the-cell, number_is e) (cell-fits r (c + (at + t)) hx hr inside)
+    active-fits e hx hr = rw (at-the-cell, number_is e) (cell-fits r (c + j) hx hr inside)
 
-    pub active-drawn : {number : ℕ} {after : Counts} → number ≡ number_in pane (at + t) → Drawn counts number after →
-        after ≡ counts_after A dx r (c + (at + t + 1))
+    pub active-drawn : {number : ℕ} {after : Counts} → number ≡ number_in pane j → Drawn counts number after →
+        after ≡ counts_after A dx r (c + (j + 1))
     active-drawn {number} {after} e d =
-        next-counts r (c + (at + t)) after inside (rw (← at-the-cell, ← number_is e) d) ∙ ap (counts_after A dx r) (omega arith)
+        next-counts r (c + j) after inside (rw (← at-the-cell, ← number_is e) d) ∙ ap (counts_after A dx r) (omega arith)
 
-  pub word-counted : {r c at : ℕ} {counts : Counts} → Unseen A r c at 0 → counts ≡ counts_after A dx r (c + at) → counts ≡ counts_after A dx r (c + 64)
-  word-counted {r} {c} {at} u so_far =
-      so_far ∙ sym (counts-stay A dx r (c + at) (64 - at) (unseen-end A r c u)) ∙ ap (counts_after A dx r) (omega (arith, u.seen))
+  pub word-counted : {r c at : ℕ} {left : List ℕ} {counts : Counts} → Unseen A r c at left → left ≡ [] → counts ≡ counts_after A dx r (c + at) → counts ≡ counts_after A dx r (c + 64)
+  word-counted {r} {c} {at} u none so_far =
+      so_far ∙ sym (counts-stay A dx r (c + at) (64 - at) (unseen-end A r c u none)) ∙ ap (counts_after A dx r) (omega (arith, u.seen))
 
   -- ---- along a row
 

@@ -1,8 +1,14 @@
 -- Rows of samples kept as words, and the tiles of cells, of which those with an active cell are marked. Assumes nothing.
 use Rattle.std.specs.Prelude.{◌≡◌, false, List, ℕ, suc, ◌+◌, ◌*◌, ◌/◌, ◌<◌, length, get_or}
-use Rattle.scope.specs.Terrain.{Sheet}
+use Rattle.scope.specs.declared.Level.{Level}
+use Rattle.scope.specs.Terrain.{Sheet, above_at, terrain}
 use Rattle.words.specs.Bits.{packed}
 use Rattle.words.specs.Panes.{active}
+use Rattle.grid.specs.declared.Grid.{Grid}
+
+-- the sheet of a grid's samples at a level
+abbrev pub sheet_of : Grid → Level → Sheet
+sheet_of grid level = terrain (above_at level) grid.values.now grid.dx grid.dy
 
 -- the samples of row s of the sheet on the right of the sixty-four cells from cell c on
 unfoldable pub word_from : Sheet → ℕ → ℕ → ℕ

@@ -7,34 +7,35 @@ ghost use Rattle.scope.specs.Limits.{side_limit};
 ghost use Rattle.scope.specs.Terrain.{above_at, terrain};
 ghost use Rattle.scope.specs.Cells.{opened, closed};
 ghost use Rattle.words.specs.Panes.{Shows, changes_in};
-ghost use Rattle.grid.specs.Grid.{Sized, grid_fit};
-ghost use Rattle.scan.specs.Rows.{word_from, Kept, tile_of, Noted, Marked};
+ghost use Rattle.grid.specs.Grid.{grid_fit};
+ghost use Rattle.scan.specs.Rows.{sheet_of, word_from, Kept, tile_of, Noted, Marked};
 ghost use Rattle.scan.specs.Scanned.{Drawn, counts_after, scanned};
 ghost use Rattle.scan.specs.Report.{first_report};
 
 use cells::change_of;
 use error::Refusal;
-use grid::grid_fit;
+use grid::{Grid, grid_fit};
 use limits::SIDE_LIMIT;
 use scope::Level;
-use words::{Pane, SAMPLES, bit_at, changes_in, number_in, pane_of, tally_of, whole_word, word_of};
+use words::{
+    Pane, SAMPLES, bit_at, changes_in, number_in, pane_of, set_bits, tally_of, whole_word, word_of,
+};
 
 // The samples of row `r` + 1 of the sheet on the right of the sixty-four cells from cell `c` on. The sheet is counted from one column and one row outside
 // the grid, and nothing outside the grid is above.
-pub fn lower_word(values: &[f64], level: Level, dx: usize, dy: usize, r: usize, c: usize) -> u64
-    requires sized { Sized (length values.now) dx dy }
-    requires c_le_dx { c ≤ dx }
-    ensures { result ≡ word_from (terrain (above_at level) values.now dx dy) (suc r) c }
+pub fn lower_word(grid: Grid, level: Level, r: usize, c: usize) -> u64
+    requires c_le_dx { c ≤ grid.dx }
+    ensures { result ≡ word_from (sheet_of grid.entry level) (suc r) c }
 {
-    if dy <= r {
+    if grid.dy <= r {
         return 0;
     }
-    let i = r * dx + c;
-    let inside = dx - c;
+    let i = r * grid.dx + c;
+    let inside = grid.dx - c;
     if inside < SAMPLES {
-        return word_of(values, level, i, inside);
+        return word_of(grid.values, level, i, inside);
     }
-    whole_word(values, level, i)
+    whole_word(grid.values, level, i)
 }
 
 // The most words of a row of samples that are kept. A word begins every sixty-four cells, and a row has a cell more than columns.
@@ -68,52 +69,35 @@ fn with_cell(before: Counts, number: usize) -> Counts
     ensures { Drawn before number result }
 {
     let change = change_of(number);
-    let segments = before.segments + change.segments as u32;
-    let open_lines = before.open_lines + change.opened as u32 - change.closed as u32;
-    let peak = before.peak;
-    if peak < open_lines {
-        return Counts {
-            segments,
-            open_lines,
-            peak: open_lines,
-        };
-    }
+    let segments = before.segments + u32::from(change.segments);
+    let open_lines = before.open_lines + u32::from(change.opened) - u32::from(change.closed);
     Counts {
         segments,
         open_lines,
-        peak,
+        peak: before.peak.max(open_lines),
     }
 }
 
 // The counts after sixty-four cells of row `r` from cell `c` on, from those before them. Only the active cells are looked at, by the bits of `changes`.
-// The values, the level and the sides say whose cells these are.
+// The grid and the level say whose cells these are.
 fn with_changes(
-    values: &[f64],
+    grid: Grid,
     level: Level,
-    dx: usize,
-    dy: usize,
     r: usize,
     c: usize,
     pane: Pane,
     changes: u64,
     before: Counts,
 ) -> Counts
-    requires sized { Sized (length values.now) dx dy }
-    requires r_le_dy { r ≤ dy }
-    requires shows { Shows (terrain (above_at level) values.now dx dy) r c pane }
+    requires r_le_dy { r ≤ grid.dy }
+    requires shows { Shows (sheet_of grid level) r c pane }
     requires changes_value { changes ≡ changes_in pane }
-    requires before_value { before ≡ counts_after (terrain (above_at level) values.now dx dy) dx r c }
-    ensures { result ≡ counts_after (terrain (above_at level) values.now dx dy) dx r (c + 64) }
+    requires before_value { before ≡ counts_after (sheet_of grid level) grid.dx r c }
+    ensures { result ≡ counts_after (sheet_of grid.entry level) grid.entry.dx r (c + 64) }
 {
     let mut counts = before;
-    let mut rest = changes;
-    let mut at: u32 = 0;
-    while rest != 0 {
-        let skipped = u64::trailing_zeros(rest);
-        let j = at + skipped;
+    for j in set_bits(changes) {
         counts = with_cell(counts, number_in(pane, j));
-        rest = (rest >> skipped) / 2;
-        at = j + 1;
     }
     counts
 }
@@ -121,23 +105,20 @@ fn with_changes(
 // The counts after the sixty-four cells of word `w` of row `r`, from those before them. Where a cell is active, the word's tile is marked. Where the peak
 // cannot rise among these cells their tally is enough, and else they are counted cell by cell.
 fn with_pane(
-    values: &[f64],
+    grid: Grid,
     level: Level,
-    dx: usize,
-    dy: usize,
     r: usize,
     w: usize,
     pane: Pane,
     marks: &mut [u8; TILES],
     before: Counts,
 ) -> Counts
-    requires sized { Sized (length values.now) dx dy }
-    requires r_le_dy { (r ≤ dy) × (w < 65) × (64 * w ≤ dx) }
+    requires r_le_dy { (r ≤ grid.dy) × (w < 65) × (64 * w ≤ grid.dx) }
     requires marks_len { length marks.old ≡ 4096 }
-    requires shows { Shows (terrain (above_at level) values.now dx dy) r (64 * w) pane }
-    requires before_value { before ≡ counts_after (terrain (above_at level) values.now dx dy) dx r (64 * w) }
-    ensures value { result ≡ counts_after (terrain (above_at level) values.now dx dy) dx r (64 * w + 64) }
-    ensures noted { Noted (terrain (above_at level) values.now dx dy) r w marks.old marks.new }
+    requires shows { Shows (sheet_of grid level) r (64 * w) pane }
+    requires before_value { before ≡ counts_after (sheet_of grid level) grid.dx r (64 * w) }
+    ensures value { result ≡ counts_after (sheet_of grid.entry level) grid.entry.dx r (64 * w + 64) }
+    ensures noted { Noted (sheet_of grid.entry level) r w marks.old marks.new }
 {
     let changes = changes_in(pane);
     if changes == 0 {
@@ -153,52 +134,48 @@ fn with_pane(
             peak: before.peak,
         };
     }
-    with_changes(values, level, dx, dy, r, SAMPLES * w, pane, changes, before)
+    with_changes(grid, level, r, SAMPLES * w, pane, changes, before)
 }
 
 // The counts after the cells of row `r`, from those before it. `row` holds the samples above these cells, and then those below.
+#[tactic(auto, unfolding(scope::specs::Limits::side_limit))]
 fn with_row(
-    values: &[f64],
+    grid: Grid,
     level: Level,
-    dx: usize,
-    dy: usize,
     r: usize,
     row: &mut [u64; ROW_WORDS],
     marks: &mut [u8; TILES],
     before: Counts,
 ) -> Counts
-    requires sized { Sized (length values.now) dx dy }
-    requires r_le_dy { r ≤ dy }
-    requires kept { Kept (terrain (above_at level) values.now dx dy) r row.old }
-    requires marked { Marked (terrain (above_at level) values.now dx dy) r marks.old }
-    requires before_value { before ≡ counts_after (terrain (above_at level) values.now dx dy) dx r 0 }
-    ensures value { result ≡ counts_after (terrain (above_at level) values.now dx dy) dx r (suc dx) }
-    ensures kept_2 { Kept (terrain (above_at level) values.now dx dy) (suc r) row.new }
-    ensures marked_2 { Marked (terrain (above_at level) values.now dx dy) (suc r) marks.new }
+    requires r_le_dy { r ≤ grid.dy }
+    requires kept { Kept (sheet_of grid level) r row.old }
+    requires marked { Marked (sheet_of grid level) r marks.old }
+    requires before_value { before ≡ counts_after (sheet_of grid level) grid.dx r 0 }
+    ensures value { result ≡ counts_after (sheet_of grid.entry level) grid.entry.dx r (suc grid.entry.dx) }
+    ensures kept_2 { Kept (sheet_of grid.entry level) (suc r) row.new }
+    ensures marked_2 { Marked (sheet_of grid.entry level) (suc r) marks.new }
 {
     let mut counts = before;
     let mut upper = false;
     let mut lower = false;
-    let mut w = 0;
-    while SAMPLES * w <= dx {
+    for w in 0..grid.dx / SAMPLES + 1 {
         let upper_word = row[w];
-        let lower_word = lower_word(values, level, dx, dy, r, SAMPLES * w);
+        let lower_word = lower_word(grid, level, r, SAMPLES * w);
         row[w] = lower_word;
         let pane = pane_of(upper_word, lower_word, upper, lower);
-        counts = with_pane(values, level, dx, dy, r, w, pane, marks, counts);
+        counts = with_pane(grid, level, r, w, pane, marks, counts);
         upper = bit_at(upper_word, 63);
         lower = bit_at(lower_word, 63);
-        w += 1;
     }
     counts
 }
 
 // The counts after all cells of a grid that fits, row after row. A tile that keeps the mark 0 has no active cell.
-pub fn scan(values: &[f64], level: Level, dx: usize, dy: usize, marks: &mut [u8; TILES]) -> Counts
-    requires sized { Sized (length values.now) dx dy }
+#[tactic(auto, unfolding(scope::specs::Limits::side_limit))]
+pub fn scan(grid: Grid, level: Level, marks: &mut [u8; TILES]) -> Counts
     requires marks_len { length marks.old ≡ 4096 }
-    ensures value { result ≡ scanned (terrain (above_at level) values.now dx dy) dx dy }
-    ensures marked { Marked (terrain (above_at level) values.now dx dy) (suc dy) marks.new }
+    ensures value { result ≡ scanned (sheet_of grid.entry level) grid.entry.dx grid.entry.dy }
+    ensures marked { Marked (sheet_of grid.entry level) (suc grid.entry.dy) marks.new }
 {
     let mut row = [0u64; ROW_WORDS];
     let mut counts = Counts {
@@ -206,10 +183,8 @@ pub fn scan(values: &[f64], level: Level, dx: usize, dy: usize, marks: &mut [u8;
         open_lines: 0,
         peak: 0,
     };
-    let mut r = 0;
-    while r <= dy {
-        counts = with_row(values, level, dx, dy, r, &mut row, marks, counts);
-        r += 1;
+    for r in 0..grid.dy + 1 {
+        counts = with_row(grid, level, r, &mut row, marks, counts);
     }
     counts
 }
@@ -232,7 +207,7 @@ pub fn first_report(
 {
     grid_fit(values.len(), dx, dy)?;
     let mut marks = [0u8; TILES];
-    let counts = scan(values, level, dx, dy, &mut marks);
+    let counts = scan(Grid { values, dx, dy }, level, &mut marks);
     Ok(FirstReport {
         segments: counts.segments,
         peak: counts.peak,

@@ -4,6 +4,7 @@ pub mod Compared
 pub mod Saddles
 pub mod Opening
 pub mod Rows
+pub mod Sides
 pub mod Signed
 pub mod Example
 pub mod Counted

@@ -3,6 +3,8 @@
 -- sheet at c, r and one further. Left at c = 0 and Top at r = 0 are never drawn. Assumes nothing.
 use Rattle.std.specs.Prelude.{ℕ, suc, ◌+◌, ◌-◌, ◌*◌, ◌/◌, ◌%◌, Bool, true, false, ◌&&◌, List, [], ◌∷◌, map, eqb, length, get_or}
 use Rattle.scope.specs.Terrain.{Sheet}
+use Rattle.scope.specs.declared.Side.{Side}
+use Rattle.scope.specs.declared.Side.TheVariants.{Left, Right, Top, Bottom}
 
 -- n where the test holds, else 0
 abbrev pub when : ℕ → Bool → ℕ
@@ -24,16 +26,13 @@ pub record Point : Type 0 where
 unfoldable pub same_point : Point → Point → Bool
 same_point p q = eqb p.x q.x && eqb p.y q.y
 
--- document 01's L, R, T and B
-pub data Side : Type 0 where
-  Left Right Top Bottom : Side
-
--- the sides by number, as the code's case table holds them
-abbrev pub side_number : Side → ℕ
-side_number Left = 0
-side_number Right = 1
-side_number Top = 2
-side_number Bottom = 3
+-- whether two sides are the same
+abbrev pub same_side : Side → Side → Bool
+same_side Left Left = true
+same_side Right Right = true
+same_side Top Top = true
+same_side Bottom Bottom = true
+same_side d e = false
 
 unfoldable pub point_of : ℕ → ℕ → Side → Point
 point_of c r Left = record { x = 2 * c - 1; y = 2 * r }

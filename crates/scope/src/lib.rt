@@ -17,3 +17,12 @@ pub struct Level {
     pub threshold: f64,
     pub rule: Rule,
 }
+
+// A side of a cell: document 01's L, R, T and B.
+#[derive(Clone, Copy)]
+pub enum Side {
+    Left,
+    Right,
+    Top,
+    Bottom,
+}

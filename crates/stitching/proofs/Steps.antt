@@ -2,7 +2,7 @@
 -- The steps are the machine's own, and the bounds go by induction. Assumes nothing.
 use mathlib.Core.Path.{◌≡◌, refl, sym, ◌∙◌, ap}
 use mathlib.Core.Bool.{false}
-use mathlib.Core.List.{List}
+use mathlib.Core.List.{List, []}
 use Prim.Native.Nat.{ℕ, zero, suc, ◌+◌, ◌-◌, ◌*◌, ◌^◌, ◌≤◌, ◌<◌}
 use native.Mathlib.Nat.{add-zero, add-suc, suc-mul}
 use native.Mathlib.Numerals.{add-one}
@@ -116,20 +116,22 @@ module _ (A : Sheet) (dx : ℕ) where
 
   -- ---- the active cells of a word
 
-  module _ {dy r c at rest t number : ℕ} {pane : Pane} {run : Run} (from : Run) (out : Outside A dx dy) (shows : Shows A r c pane) (next : Next A r c at rest t)
-      (so_far : run ≡ cells_drawn A dx from r c at) (e : number ≡ number_in pane (at + t)) where
-    pub active-inside : c + (at + t) ≤ dx
-    active-inside = an-active-cell-is-inside A out r (c + (at + t)) next.active-there
+  module _ {dy r c at j number : ℕ} {left : List ℕ} {pane : Pane} {run : Run} (from : Run) (out : Outside A dx dy) (shows : Shows A r c pane) (next : Next A r c at j left)
+      (so_far : run ≡ cells_drawn A dx from r c at) (e : number ≡ number_in pane j) where
+    pub active-inside : c + j ≤ dx
+    active-inside = an-active-cell-is-inside A out r (c + j) next.active-there
 
-    pub active-drawn : {after : Run} → after ≡ number_drawn dx run number (c + (at + t)) r → after ≡ cells_drawn A dx from r c (at + t + 1)
+    pub active-drawn : {after : Run} → after ≡ number_drawn dx run number (c + j) r → after ≡ cells_drawn A dx from r c (j + 1)
     active-drawn d =
-        d ∙ rw (so_far ∙ sym (cells_stay from r c at t next.none_between))
-        (sym (drawn-next from r c (at + t) number (e ∙ number-shown A r c shows next.in-word)))
+        let there : at + (j - at) ≡ j = omega (arith, next.further) in
+        d
+        ∙ rw (so_far ∙ sym (cells_stay from r c at (j - at) next.none_between) ∙ ap (cells_drawn A dx from r c) there)
+        (sym (drawn-next from r c j number (e ∙ number-shown A r c shows next.in-word)))
 
-  pub word-drawn : {r c at : ℕ} {run : Run} (from : Run) → Unseen A r c at 0 → run ≡ cells_drawn A dx from r c at → run ≡ cells_drawn A dx from r c 64
-  word-drawn {r} {c} {at} from u so_far =
+  pub word-drawn : {r c at : ℕ} {left : List ℕ} {run : Run} (from : Run) → Unseen A r c at left → left ≡ [] → run ≡ cells_drawn A dx from r c at → run ≡ cells_drawn A dx from r c 64
+  word-drawn {r} {c} {at} from u none so_far =
       let whole : at + (64 - at) ≡ 64 = omega (arith, u.seen) in
-      so_far ∙ sym (cells_stay from r c at (64 - at) (unseen-end A r c u)) ∙ ap (cells_drawn A dx from r c) whole
+      so_far ∙ sym (cells_stay from r c at (64 - at) (unseen-end A r c u none)) ∙ ap (cells_drawn A dx from r c) whole
 
   -- ---- along a row
 

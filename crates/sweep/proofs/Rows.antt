@@ -1,48 +1,22 @@
 -- The cells between two rows of words: a pane of two words and the samples on their left shows them, and where the rows are kept rows of a sheet, they are the
--- sheet's cells. A word is its own bits, packed. Assumes nothing.
+-- sheet's cells. Assumes nothing.
 use mathlib.Core.Path.{◌≡◌, refl, sym, ◌∙◌, ap}
 use mathlib.Core.Bool.{Bool, false}
 use mathlib.Core.List.{List}
 use Prim.Native.Nat.{ℕ, zero, suc, ◌+◌, ◌*◌, ◌/◌, ◌%◌, ◌^◌, ◌<◌}
-use native.Mathlib.Nat.{pow-suc, div-one}
 use native.Mathlib.Omega.{arith}
-use lib.Dec.{eqb}
 use lib.ListN.{get_or}
-use lib.Pow.{shr-shr}
 use Rattle.scope.specs.Terrain.{Sheet}
-use Rattle.scope.specs.Cells.{when, cell_number}
+use Rattle.scope.specs.Cells.{cell_number}
 use Rattle.words.specs.Bits.{packed, bit_at}
 use Rattle.words.specs.Panes.{active, Shows, pane_of}
 use Rattle.words.specs.declared.Pane.{Pane}
-use Rattle.words.proofs.Packing.{packed_alike, one_more}
+use Rattle.words.proofs.Packing.{packed_alike}
 use Rattle.words.proofs.Laws.{bit-is-test, pane-shows}
+use Rattle.words.proofs.Places.{own-bits}
 use Rattle.laws.proofs.Edges.{Outside}
 use Rattle.scan.specs.Rows.{word_from, Kept}
 use Rattle.sweep.specs.Sweep.{sample_in, between}
-
--- ---- a word and its bits
-
-bit-weighs : (n : ℕ) → n < 2 → when 1 (eqb n 1) ≡ n
-bit-weighs zero h = refl
-bit-weighs (suc zero) h = refl
-bit-weighs (suc (suc n)) h = absurd (omega arith)
-
-first_bit : (word : ℕ) → when 1 (bit_at word 0) ≡ word % 2
-unfolding bit_at
-first_bit word = rw (div-one word) (bit-weighs (word % 2) (omega arith))
-
-other-bits : (word j : ℕ) → bit_at word (suc j) ≡ bit_at (word / 2) j
-unfolding bit_at
-other-bits word j = ap (λ (x : ℕ). eqb (x % 2) 1) (sym (shr-shr word 1 j ∙ ap (λ (k : ℕ). word / 2 ^ k) (omega arith)))
-
-bits-packed : (n word : ℕ) → word < 2 ^ n → word ≡ packed (bit_at word) n
-bits-packed zero word h = unfold packed in omega arith
-bits-packed (suc n) word h =
-    let half : word / 2 < 2 ^ n = omega (arith, pow-suc 2 n) in
-    let rest : packed (λ j. bit_at word (suc j)) n ≡ word / 2 =
-    packed_alike (λ j. bit_at word (suc j)) (bit_at (word / 2)) n (λ j l. other-bits word j) ∙ sym (bits-packed n (word / 2) half)
-    in
-    sym (one_more (bit_at word) n ∙ rw (rest, first_bit word) (omega arith))
 
 -- ---- the samples of a word
 
@@ -55,7 +29,7 @@ sample-of-word row w j h =
 
 word-packed : (row : List ℕ) (w : ℕ) → get_or row w 0 < 2 ^ 64 → get_or row w 0 ≡ packed (λ j. sample_in row (64 * w + j)) 64
 word-packed row w h =
-    bits-packed 64 (get_or row w 0) h
+    own-bits (get_or row w 0) 64 h
     ∙ packed_alike (bit_at (get_or row w 0)) (λ j. sample_in row (64 * w + j)) 64 (λ j l. sym (sample-of-word row w j l))
 
 -- the samples on the left of word w's first cell

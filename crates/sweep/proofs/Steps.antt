@@ -2,6 +2,7 @@
 -- visited. By induction on the number of cells. Assumes nothing.
 use mathlib.Core.Path.{◌≡◌, refl, sym, ◌∙◌, ap}
 use mathlib.Core.Bool.{false}
+use mathlib.Core.List.{List, []}
 use Prim.Native.Nat.{ℕ, zero, suc, ◌+◌, ◌-◌, ◌*◌, ◌/◌, ◌≤◌, ◌<◌}
 use native.Mathlib.Nat.{add-zero, add-suc}
 use native.Mathlib.Numerals.{add-one}
@@ -71,17 +72,18 @@ module _ {X : Type 0} (step : X → ℕ → X) where
         ∙ cells_stay from c n t (λ j l. h j (omega arith)))
 
     -- the next active cell of a word
-    pub active-swept : {c at rest t : ℕ} {now after : X} (from : X) → Next A r c at rest t → now ≡ swept step from c at → after ≡ step now (c + (at + t)) →
-        after ≡ swept step from c (at + t + 1)
-    active-swept {c} {at} {rest} {t} from next so_far e =
-        e ∙ ap (λ (x : X). step x (c + (at + t))) (so_far ∙ sym (cells_stay from c at t next.none_between))
-        ∙ sym (next-swept from c (at + t))
+    pub active-swept : {c at j : ℕ} {left : List ℕ} {now after : X} (from : X) → Next A r c at j left → now ≡ swept step from c at → after ≡ step now (c + j) →
+        after ≡ swept step from c (j + 1)
+    active-swept {c} {at} {j} from next so_far e =
+        let there : at + (j - at) ≡ j = omega (arith, next.further) in
+        e ∙ ap (λ (x : X). step x (c + j)) (so_far ∙ sym (cells_stay from c at (j - at) next.none_between) ∙ ap (swept step from c) there)
+        ∙ sym (next-swept from c j)
 
     -- the cells after the last active one
-    pub word-swept : {c at : ℕ} {now : X} (from : X) → Unseen A r c at 0 → now ≡ swept step from c at → now ≡ swept step from c 64
-    word-swept {c} {at} from u so_far =
+    pub word-swept : {c at : ℕ} {left : List ℕ} {now : X} (from : X) → Unseen A r c at left → left ≡ [] → now ≡ swept step from c at → now ≡ swept step from c 64
+    word-swept {c} {at} from u none so_far =
         let whole : at + (64 - at) ≡ 64 = omega (arith, u.seen) in
-        so_far ∙ sym (cells_stay from c at (64 - at) (unseen-end A r c u)) ∙ ap (swept step from c) whole
+        so_far ∙ sym (cells_stay from c at (64 - at) (unseen-end A r c u none)) ∙ ap (swept step from c) whole
 
     -- the cells of a row of dx columns, where none past them is active
     pub row-is-its-cells : (from : X) (dx : ℕ) → ((c : ℕ) → dx < c → active A r c ≡ false) → swept step from 0 (row_cells dx) ≡ swept step from 0 (suc dx)

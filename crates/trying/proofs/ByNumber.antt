@@ -9,14 +9,14 @@ use native.Mathlib.Omega.{arith}
 use lib.Dec.{eqb, eqb→eq}
 use lib.ListN.{length, get_or}
 use Rattle.scope.specs.Terrain.{Sheet}
-use Rattle.scope.specs.Cells.{Left, Right, Top, Bottom, Stroke, ◌⟶◌, case_table, drawn, cell_number}
+use Rattle.scope.specs.declared.Side.TheVariants.{Left, Right, Top, Bottom}
+use Rattle.scope.specs.Cells.{Stroke, ◌⟶◌, case_table, drawn, cell_number}
 use Rattle.cells.specs.declared.Stroke as cells
-use Rattle.cells.specs.Sides.{numbered, stroke_at}
+use Rattle.cells.specs.Sides.{sides_of, stroke_at}
 use Rattle.cells.proofs.Laws.{past-the-table-nothing-is-drawn}
 use Rattle.cells.proofs.Numbers.{within-left}
 use Rattle.words.specs.Panes.{active}
 use Rattle.words.proofs.Laws.{nothing-drawn}
-use Rattle.drawing.specs.Values.{stroke_of}
 use Rattle.drawing.proofs.Strokes.{the-stroke-comes-back}
 use Rattle.trying.specs.Trying.{Tried, reached, cross_tried, stroke_tried, strokes_tried, strokes_reached, number_tried, cell_tried}
 use Rattle.trying.specs.Values.{tried_of}
@@ -45,12 +45,12 @@ module _ (dx c number : ℕ) (t : Tried) {words : List ℕ} {one after : Trial} 
   unfolding number_tried strokes_reached
   strokes-reached σ σs row same e = rw row (after-cell (strokes_tried dx c t (σ ∷ σs)) same e)
 
-  pub one-tried : 1 ≤ number → number < 15 → (number ≡ 5 → ⊥) → (number ≡ 10 → ⊥) → {code : cells.Stroke} → code ≡ numbered (stroke_at number 0) →
-      tried_of words one ≡ stroke_tried dx c t (stroke_of code) → after ≡ reached one → tried_of words after ≡ number_tried dx t number c
+  pub one-tried : 1 ≤ number → number < 15 → (number ≡ 5 → ⊥) → (number ≡ 10 → ⊥) → {code : cells.Stroke} → code ≡ sides_of (stroke_at number 0) →
+      tried_of words one ≡ stroke_tried dx c t (code.from ⟶ code.to) → after ≡ reached one → tried_of words after ≡ number_tried dx t number c
   unfolding strokes_tried
   one-tried a b five ten code same e =
       strokes-reached (stroke_at number 0) [] (one-drawn number a b five ten)
-      (same ∙ ap (stroke_tried dx c t) (ap stroke_of code ∙ the-stroke-comes-back (stroke_at number 0)) ∙ alone (stroke_at number 0)) e
+      (same ∙ ap (stroke_tried dx c t) (the-stroke-comes-back (stroke_at number 0) code) ∙ alone (stroke_at number 0)) e
     where
       alone : (σ : Stroke) → stroke_tried dx c t σ ≡ strokes_tried dx c t (σ ∷ [])
       alone (Left ⟶ y) = refl
@@ -62,8 +62,8 @@ module _ (dx c number : ℕ) (t : Tried) {words : List ℕ} {one after : Trial} 
   unfolding strokes_tried drawn case_table
   cross-tried five same e = strokes-reached (Bottom ⟶ Left) ((Top ⟶ Right) ∷ []) (rw five) same e
 
-  pub two-tried : number ≡ 10 → {first second : cells.Stroke} → first ≡ numbered (stroke_at 10 0) → second ≡ numbered (stroke_at 10 1) →
-      {before : Tried} → before ≡ stroke_tried dx c t (stroke_of first) → tried_of words one ≡ stroke_tried dx c before (stroke_of second) →
+  pub two-tried : number ≡ 10 → {first second : cells.Stroke} → first ≡ sides_of (stroke_at 10 0) → second ≡ sides_of (stroke_at 10 1) →
+      {before : Tried} → before ≡ stroke_tried dx c t (first.from ⟶ first.to) → tried_of words one ≡ stroke_tried dx c before (second.from ⟶ second.to) →
       after ≡ reached one → tried_of words after ≡ number_tried dx t number c
   unfolding strokes_tried drawn case_table stroke_at
   two-tried ten first second first-tried second-tried e =

@@ -6,7 +6,9 @@ use native.Mathlib.Omega.{arith}
 use borrow.Author.Tests.{eq-eqb, ne_eqb}
 use lib.ListN.{get_or}
 use Rattle.scope.specs.Limits.{side_limit}
-use Rattle.scope.specs.Cells.{Side, Left, Right, Top, Bottom, ◌⟶◌}
+use Rattle.scope.specs.declared.Side.{Side}
+use Rattle.scope.specs.declared.Side.TheVariants.{Left, Right, Top, Bottom}
+use Rattle.scope.specs.Cells.{◌⟶◌}
 use Rattle.machine.specs.Machine.{side_word}
 use Rattle.drawing.specs.Values.{is_met}
 use Rattle.trying.specs.Notes.{place_in}

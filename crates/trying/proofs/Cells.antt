@@ -7,7 +7,9 @@ use Prim.Native.Nat.{ℕ, ◌+◌, ◌^◌, ◌≤◌, ◌<◌}
 use native.Mathlib.Omega.{arith}
 use lib.ListN.{length, length-append}
 use Rattle.scope.specs.Terrain.{Sheet}
-use Rattle.scope.specs.Cells.{Side, Left, Right, Top, Bottom, Stroke, ◌⟶◌, Segment, point_of, placed, on_finished}
+use Rattle.scope.specs.declared.Side.{Side}
+use Rattle.scope.specs.declared.Side.TheVariants.{Left, Right, Top, Bottom}
+use Rattle.scope.specs.Cells.{Stroke, ◌⟶◌, Segment, point_of, placed, on_finished}
 use Rattle.scope.specs.Stitching.{nothing, stitch_all}
 use Rattle.laws.proofs.Counting.{Fresh}
 use Rattle.laws.proofs.Edges.{Outside}

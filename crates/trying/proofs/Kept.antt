@@ -7,7 +7,8 @@ use native.Mathlib.Nat.{max-eq_left, le-max_right}
 use native.Mathlib.Omega.{arith}
 use lib.Dec.{eqb}
 use lib.ListN.{get_or}
-use Rattle.scope.specs.Cells.{Left, Right, Top, Bottom, Stroke, ◌⟶◌}
+use Rattle.scope.specs.declared.Side.TheVariants.{Left, Right, Top, Bottom}
+use Rattle.scope.specs.Cells.{Stroke, ◌⟶◌}
 use Rattle.machine.specs.Machine.{side_word}
 use Rattle.trying.specs.declared.Trial.{Trial}
 use Rattle.trying.specs.Notes.{place_in}

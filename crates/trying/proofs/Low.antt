@@ -9,7 +9,9 @@ use native.Mathlib.Omega.{arith}
 use lib.Dec.{eqb}
 use lib.ListN.{length, get_or, set, drop, length-set}
 use lib.Seq.{get_or-set_same, get_or-set_other, drop-set-lt}
-use Rattle.scope.specs.Cells.{Side, Left, Right, Top, Bottom, Stroke, ◌⟶◌, drawn}
+use Rattle.scope.specs.declared.Side.{Side}
+use Rattle.scope.specs.declared.Side.TheVariants.{Left, Right, Top, Bottom}
+use Rattle.scope.specs.Cells.{Stroke, ◌⟶◌, drawn}
 use Rattle.machine.specs.Machine.{side_word}
 use Rattle.drawing.specs.Values.{is_met}
 use Rattle.sweep.specs.Sweep.{swept}

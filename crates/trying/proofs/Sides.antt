@@ -7,7 +7,8 @@ use Prim.Native.Nat.{ℕ, ◌+◌, ◌^◌, ◌≤◌, ◌<◌}
 use native.Mathlib.Omega.{arith}
 use lib.ListN.{length}
 use Rattle.scope.specs.Terrain.{Sheet}
-use Rattle.scope.specs.Cells.{Side, ◌⟶◌, Segment, point_of, placed, on_finished}
+use Rattle.scope.specs.declared.Side.{Side}
+use Rattle.scope.specs.Cells.{◌⟶◌, Segment, point_of, placed, on_finished}
 use Rattle.scope.specs.Stitching.{nothing, stitch_all}
 use Rattle.laws.proofs.Counting.{Fresh}
 use Rattle.laws.proofs.Edges.{Outside}

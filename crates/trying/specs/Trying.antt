@@ -2,7 +2,8 @@
 -- defined on every table. Assumes nothing.
 use Rattle.std.specs.Prelude.{ℕ, ◌+◌, ◌-◌, max, cond, List, [], ◌∷◌, eqb, get_or}
 use Rattle.scope.specs.Terrain.{Sheet}
-use Rattle.scope.specs.Cells.{Left, Right, Top, Bottom, Stroke, ◌⟶◌, drawn, cell_number}
+use Rattle.scope.specs.declared.Side.TheVariants.{Left, Right, Top, Bottom}
+use Rattle.scope.specs.Cells.{Stroke, ◌⟶◌, drawn, cell_number}
 use Rattle.machine.specs.Machine.{word_of, side_word}
 use Rattle.drawing.specs.Values.{is_met}
 use Rattle.sweep.specs.Sweep.{between, swept, row_cells}

@@ -5,9 +5,9 @@
 
 ghost use Rattle.std.specs.Prelude.{◌≡◌, ◌-◌, ◌^◌, ◌≤◌, ◌<◌, max};
 ghost use Rattle.scope.specs.Limits.{side_limit};
+ghost use Rattle.scope.specs.Cells.{◌⟶◌};
 ghost use Rattle.words.specs.Panes.{Shows, changes_in};
 ghost use Rattle.sweep.specs.Sweep.{between, swept};
-ghost use Rattle.drawing.specs.Values.{stroke_of};
 ghost use Rattle.trying.specs.Notes.{note_of, place_in, half_in, size_between, noted, frontier_noted};
 ghost use Rattle.trying.specs.Trying.{grown, ringed, reached, open_tried, end_tried, start_tried, meet_tried, cross_tried, stroke_tried, number_tried, cell_tried, row_tried};
 ghost use Rattle.trying.specs.Values.{tried_of};
@@ -19,7 +19,7 @@ use lines::tables::{column_word, link_point, slot_at, word_of};
 use packing::clear;
 use scan::ROW_WORDS;
 use sweep::row_word;
-use words::{Pane, SAMPLES, bit_at, changes_in, number_in, pane_of};
+use words::{Pane, SAMPLES, bit_at, changes_in, number_in, pane_of, set_bits};
 
 // What a trial has counted: the open lines and the most after any cell, the segments in no closed ring and the most after any cell, and the rings that closed
 // with their points.
@@ -74,34 +74,9 @@ fn with_segment(t: Trial) -> Trial
     ensures { result ≡ grown t }
 {
     Trial {
-        lines: t.lines,
-        peak: t.peak,
         held: word_of(t.held as u64 + 1),
-        most: t.most,
-        rings: t.rings,
-        points: t.points,
+        ..t
     }
-}
-
-// One less, and 0 for 0.
-fn one_less(n: u32) -> u32
-    ensures { result ≡ n - 1 }
-{
-    if n == 0 { 0 } else { n - 1 }
-}
-
-// One number less another, and 0 where it is larger.
-fn less(n: u32, m: u32) -> u32
-    ensures { result ≡ n - m }
-{
-    if n < m { 0 } else { n - m }
-}
-
-// The larger of two numbers.
-fn larger(n: u32, m: u32) -> u32
-    ensures { result ≡ max n m }
-{
-    if n < m { m } else { n }
 }
 
 // The counts with a ring that closes a line of that many links.
@@ -109,12 +84,11 @@ fn with_ring(t: Trial, size: u32) -> Trial
     ensures { result ≡ ringed t size }
 {
     Trial {
-        lines: one_less(t.lines),
-        peak: t.peak,
-        held: less(t.held, size),
-        most: t.most,
+        lines: t.lines.saturating_sub(1),
+        held: t.held.saturating_sub(size),
         rings: word_of(t.rings as u64 + 1),
         points: word_of(t.points as u64 + size as u64 + 2),
+        ..t
     }
 }
 
@@ -123,12 +97,9 @@ fn after_cell(t: Trial) -> Trial
     ensures { result ≡ reached t }
 {
     Trial {
-        lines: t.lines,
-        peak: larger(t.peak, t.lines),
-        held: t.held,
-        most: larger(t.most, t.held),
-        rings: t.rings,
-        points: t.points,
+        peak: t.peak.max(t.lines),
+        most: t.most.max(t.held),
+        ..t
     }
 }
 
@@ -139,11 +110,8 @@ fn try_open(words: &mut [u32], t: Trial, s: u32, e: u32) -> Trial
     note(words, s, e, 1);
     Trial {
         lines: word_of(t.lines as u64 + 1),
-        peak: t.peak,
         held: word_of(t.held as u64 + 1),
-        most: t.most,
-        rings: t.rings,
-        points: t.points,
+        ..t
     }
 }
 
@@ -180,12 +148,9 @@ fn try_meet(words: &mut [u32], t: Trial, s: u32, e: u32) -> Trial
     let size = size_between(words, start, s) + size_between(words, e, end) + 1;
     note(words, start, end, size);
     Trial {
-        lines: one_less(t.lines),
-        peak: t.peak,
+        lines: t.lines.saturating_sub(1),
         held: word_of(t.held as u64 + 1),
-        most: t.most,
-        rings: t.rings,
-        points: t.points,
+        ..t
     }
 }
 
@@ -210,7 +175,7 @@ fn try_cross(words: &mut [u32], t: Trial, v: u32, c: u32) -> Trial
 // A stroke of a cell in column `c`.
 fn try_stroke(words: &mut [u32], t: Trial, dx: u32, c: u32, stroke: Stroke) -> Trial
     requires { (dx ≤ side_limit) × (c < 2 ^ 16) }
-    ensures { tried_of words.new result ≡ stroke_tried dx c (tried_of words.old t) (stroke_of stroke) }
+    ensures { tried_of words.new result ≡ stroke_tried dx c (tried_of words.old t) (stroke.from ⟶ stroke.to) }
 {
     let s = word_at(dx, c, stroke.from) as u32;
     let e = word_at(dx, c, stroke.to) as u32;
@@ -259,16 +224,9 @@ fn try_changes(
     ensures { tried_of words.new result ≡ swept (cell_tried (between upper.now lower.now) dx) (tried_of words.old t) c 64 }
 {
     let mut trial = t;
-    let mut rest = changes;
-    let mut at: u32 = 0;
-    while rest != 0 {
-        let skipped = u64::trailing_zeros(rest);
-        let j = at + skipped;
+    for j in set_bits(changes) {
         let number = number_in(pane, j);
-        let next = try_cell(words, trial, dx, c + j, number);
-        trial = next;
-        rest = (rest >> skipped) / 2;
-        at = j + 1;
+        trial = try_cell(words, trial, dx, c + j, number);
     }
     trial
 }
@@ -287,13 +245,12 @@ pub fn try_row(
     let mut trial = t;
     let mut upper_left = false;
     let mut lower_left = false;
-    let mut w = 0;
-    while SAMPLES * w <= dx as usize {
+    for w in 0..dx as usize / SAMPLES + 1 {
         let upper_word = row_word(upper, w);
         let lower_word = row_word(lower, w);
         let pane = pane_of(upper_word, lower_word, upper_left, lower_left);
         let changes = changes_in(pane);
-        let next = try_changes(
+        trial = try_changes(
             upper,
             lower,
             dx,
@@ -303,10 +260,8 @@ pub fn try_row(
             words,
             trial,
         );
-        trial = next;
         upper_left = bit_at(upper_word, 63);
         lower_left = bit_at(lower_word, 63);
-        w += 1;
     }
     trial
 }
@@ -317,12 +272,10 @@ pub fn note_lines(lines: &mut [u32], links: &[u32], dx: u32, count: u32)
     ensures { lines.new ≡ frontier_noted dx links.now lines.old count }
 {
     clear(lines, dx as usize + 2);
-    let mut i: u32 = 0;
-    while i < count {
+    for i in 0..count {
         let line = slot_at(lines, dx, i);
         let start = column_word(dx, link_point(links, line.first)) as u32;
         let end = column_word(dx, line.end) as u32;
         note(lines, start, end, line.size);
-        i += 1;
     }
 }

@@ -62,7 +62,7 @@ one-or-none : (b : Bool) → eqb (when 1 b) 1 ≡ b
 one-or-none true = refl
 one-or-none false = refl
 
-shifted : (x j : ℕ) → x / 2 ^ suc j ≡ x / 2 / 2 ^ j
+pub shifted : (x j : ℕ) → x / 2 ^ suc j ≡ x / 2 / 2 ^ j
 shifted x j = sym (shr-shr x 1 j ∙ ap (λ (k : ℕ). x / 2 ^ k) (omega arith))
 
 pub bit-is-test : (f : ℕ → Bool) (n j : ℕ) → j < n → bit_at (packed f n) j ≡ f j

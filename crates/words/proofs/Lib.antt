@@ -2,3 +2,4 @@
 pub mod Packing
 pub mod Laws
 pub mod Ruled
+pub mod Places

@@ -1,6 +1,6 @@
 -- Tests packed into a number: it is below 2 ^ n, and of m + n tests the last n are its high part. So a word that holds the last samples of
 -- some values takes in those before them, and fits. Assumes nothing.
-use mathlib.Core.Path.{◌≡◌, refl, sym, ◌∙◌, ap}
+use mathlib.Core.Path.{◌≡◌, refl, sym, ◌∙◌, ap, subst}
 use mathlib.Core.Bool.{Bool, true, false}
 use mathlib.Core.List.{List}
 use Prim.Native.Nat.{ℕ, zero, suc, ◌+◌, ◌-◌, ◌*◌, ◌^◌, ◌≤◌, ◌<◌}
@@ -9,6 +9,7 @@ use native.Mathlib.Omega.{arith}
 use lib.Ieee.{Float, nan}
 use lib.ListN.{get_or}
 use lib.Pow.{pow_mono}
+use Rattle.std.specs.Int.{from_bool}
 use Rattle.scope.specs.Cells.{when}
 use Rattle.words.specs.Bits.{packed, samples_from}
 
@@ -17,10 +18,10 @@ pub bit-small : (b : Bool) → when 1 b ≤ 1
 bit-small true = omega arith
 bit-small false = omega arith
 
--- a weight is as many ones
-pub weighed : (w : ℕ) (b : Bool) → when w b ≡ w * when 1 b
-weighed w true = omega arith
-weighed w false = omega arith
+-- a test as a number is its weight of 1
+pub bit-is : (b : Bool) → from_bool b ≡ when 1 b
+bit-is true = refl
+bit-is false = refl
 
 -- n tests are a number below 2 ^ n
 pub packed-small : (f : ℕ → Bool) (n : ℕ) → packed f n < 2 ^ n
@@ -55,11 +56,11 @@ module _ (rule : Float → Bool) (values : List Float) (i : ℕ) where
   one-sample = rw (add-zero i) (omega arith)
 
   -- the samples of eight values, as the sum of their weights
-  pub eight-samples : when 1 (rule (get_or values i nan)) + when 2 (rule (get_or values (i + 1) nan)) + when 4 (rule (get_or values (i + 2) nan)) + when 8 (rule (get_or values (i + 3) nan)) + when 16 (rule (get_or values (i + 4) nan)) + when 32 (rule (get_or values (i + 5) nan)) + when 64 (rule (get_or values (i + 6) nan)) + when 128 (rule (get_or values (i + 7) nan)) ≡ packed (samples_from rule values i) 8
+  pub eight-samples : from_bool (rule (get_or values i nan)) + from_bool (rule (get_or values (i + 1) nan)) * 2 + from_bool (rule (get_or values (i + 2) nan)) * 4 + from_bool (rule (get_or values (i + 3) nan)) * 8 + from_bool (rule (get_or values (i + 4) nan)) * 16 + from_bool (rule (get_or values (i + 5) nan)) * 32 + from_bool (rule (get_or values (i + 6) nan)) * 64 + from_bool (rule (get_or values (i + 7) nan)) * 128 ≡ packed (samples_from rule values i) 8
   unfolding packed
   eight-samples =
-      rw (add-zero i)
-      (omega (arith, weighed 2 (at 1), weighed 4 (at 2), weighed 8 (at 3), weighed 16 (at 4), weighed 32 (at 5), weighed 64 (at 6), weighed 128 (at 7)))
+      rw (add-zero i, bit-is (rule (get_or values i nan)), bit-is (at 1), bit-is (at 2), bit-is (at 3), bit-is (at 4), bit-is (at 5), bit-is (at 6), bit-is (at 7))
+      (omega arith)
     where
       at : ℕ → Bool
       at j = rule (get_or values (i + j) nan)
@@ -93,22 +94,26 @@ module _ (rule : Float → Bool) (values : List Float) (i n : ℕ) where
   unfolding packed
   holds-none = record { left-within = omega arith; held = rw (sub_self n) }
 
-  -- the last m of those left are taken in
-  pub holds_more : {left word : ℕ} (m part : ℕ) → Holds rule values i n left word → m ≤ left → part ≡ packed (samples_from rule values (i + (left - m))) m → Holds rule values i n (left - m) (word * 2 ^ m + part)
-  holds_more {left} {word} m part w h e = record {
-    left-within = omega arith;
-    held = rw (e, w.held, more) (sym (rw on at (samples-split rule values (i + (left - m)) m (n - left))));
+  -- the last m of those left are taken in, and fewer are left
+  pub holds_more : {left fewer word : ℕ} (m part : ℕ) → Holds rule values i n left word → fewer + m ≡ left → part ≡ packed (samples_from rule values (i + fewer)) m → Holds rule values i n fewer (word * 2 ^ m + part)
+  holds_more {left} {fewer} {word} m part w h e = record {
+    left-within = omega (arith, w.left-within);
+    held = rw (e, w.held, more) (sym (rw on at (samples-split rule values (i + fewer) m (n - left))));
   }
     where
-      more : n - (left - m) ≡ m + (n - left)
-      more = omega arith
+      more : n - fewer ≡ m + (n - left)
+      more = omega (arith, w.left-within)
 
-      on : i + (left - m) + m ≡ i + left
+      on : i + fewer + m ≡ i + left
       on = omega arith
 
   -- the last of those left is taken in
-  pub holds-one : {left word bit : ℕ} {sample : Bool} → Holds rule values i n left word → 1 ≤ left → bit ≡ when 1 sample → sample ≡ rule (get_or values (i + (left - 1)) nan) → Holds rule values i n (left - 1) (word * 2 + bit)
-  holds-one w h e s = holds_more 1 _ w h (e ∙ ap (when 1) s ∙ sym (one-sample rule values _))
+  pub holds-one : {left fewer word bit : ℕ} {sample : Bool} → Holds rule values i n left word → fewer + 1 ≡ left → bit ≡ from_bool sample → sample ≡ rule (get_or values (i + fewer) nan) → Holds rule values i n fewer (word * 2 + bit)
+  holds-one w h e s = holds_more 1 _ w h (e ∙ ap from_bool s ∙ bit-is _ ∙ sym (one-sample rule values _))
+
+  -- those left by another name
+  pub holds-as : {left same word : ℕ} → Holds rule values i n left word → left ≡ same → Holds rule values i n same word
+  holds-as {word = word} w e = subst (λ (left : ℕ). Holds rule values i n left word) e w
 
   -- what is held fits a word
   pub holds_fits : {left word : ℕ} → Holds rule values i n left word → n ≤ 64 → word < 2 ^ 64
@@ -116,7 +121,7 @@ module _ (rule : Float → Bool) (values : List Float) (i n : ℕ) where
 
   -- and so it does once it is moved up by m of those left
   pub holds-room : {left word : ℕ} (m : ℕ) → Holds rule values i n left word → m ≤ left → n ≤ 64 → word * 2 ^ m < 2 ^ 64
-  holds-room m w h l = omega (arith, holds_fits (holds_more m _ w h refl) l)
+  holds-room {left} m w h l = omega (arith, holds_fits (holds_more {fewer = left - m} m _ w (omega arith) refl) l)
 
   -- at the end none are left
   pub holds-all : {left word : ℕ} → Holds rule values i n left word → left ≤ 0 → word ≡ packed (samples_from rule values i) n

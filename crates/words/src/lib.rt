@@ -6,38 +6,33 @@ ghost use Rattle.std.specs.Int.Count.{ones};
 ghost use Rattle.scope.specs.Terrain.{above_at};
 ghost use Rattle.scope.specs.Cells.{when};
 ghost use Rattle.cells.specs.Rules.{level_of};
-ghost use Rattle.words.specs.Bits.{packed, samples_from, bit_at, moved_in};
+ghost use Rattle.words.specs.Bits.{packed, samples_from, bit_at, set_bits, moved_in};
 ghost use Rattle.words.specs.Panes.{pane_of, changes_in, number_in, saddles_in, opening_in, closing_in};
 
 use cells::{above, cell_number, rule_number};
 use scope::Level;
+use std::marker::Model;
 
 // How many samples a word holds.
 pub const SAMPLES: usize = 64;
-
-// `weight` where a sample is above, else 0.
-fn bit_of(weight: u64, sample: bool) -> u64
-    ensures { (result ≡ when weight sample) × (result ≤ weight) }
-{
-    if sample { weight } else { 0 }
-}
 
 // Eight samples from value `i` on, at the level of a threshold and a rule's number.
 fn eight_known(values: &[f64], threshold: f64, number: u32, i: usize) -> u64
     requires { i + 8 ≤ length values.now }
     ensures { result ≡ packed (samples_from (above_at (level_of threshold number)) values.now i) 8 }
 {
-    bit_of(1, above(threshold, number, values[i]))
-        + bit_of(2, above(threshold, number, values[i + 1]))
-        + bit_of(4, above(threshold, number, values[i + 2]))
-        + bit_of(8, above(threshold, number, values[i + 3]))
-        + bit_of(16, above(threshold, number, values[i + 4]))
-        + bit_of(32, above(threshold, number, values[i + 5]))
-        + bit_of(64, above(threshold, number, values[i + 6]))
-        + bit_of(128, above(threshold, number, values[i + 7]))
+    u64::from(above(threshold, number, values[i]))
+        + u64::from(above(threshold, number, values[i + 1])) * 2
+        + u64::from(above(threshold, number, values[i + 2])) * 4
+        + u64::from(above(threshold, number, values[i + 3])) * 8
+        + u64::from(above(threshold, number, values[i + 4])) * 16
+        + u64::from(above(threshold, number, values[i + 5])) * 32
+        + u64::from(above(threshold, number, values[i + 6])) * 64
+        + u64::from(above(threshold, number, values[i + 7])) * 128
 }
 
 // The same. The rule is decided once for all of them: in each arm the compiler knows it, and tests several samples at once.
+// Kept: two arms that differ in a literal, since with one body for both rules the first report of a cone took 1.7 times as long (docs/DECISIONS.md).
 fn eight(values: &[f64], threshold: f64, number: u32, i: usize) -> u64
     requires { i + 8 ≤ length values.now }
     ensures { result ≡ packed (samples_from (above_at (level_of threshold number)) values.now i) 8 }
@@ -50,6 +45,7 @@ fn eight(values: &[f64], threshold: f64, number: u32, i: usize) -> u64
 }
 
 // Sixteen samples from value `i` on.
+// Kept: halves of halves, here and twice below, since a loop over eight eights took 1.14 times as long for the first report of a cone.
 fn sixteen(values: &[f64], threshold: f64, number: u32, i: usize) -> u64
     requires { i + 16 ≤ length values.now }
     ensures { result ≡ packed (samples_from (above_at (level_of threshold number)) values.now i) 16 }
@@ -75,6 +71,7 @@ fn sixty_four(values: &[f64], threshold: f64, number: u32, i: usize) -> u64
 }
 
 // A whole word of samples from value `i` on. The rule is decided once for all of them, as in `eight`.
+// Kept: two arms that differ in a literal, for the time that `eight` names.
 pub fn whole_word(values: &[f64], level: Level, i: usize) -> u64
     requires { i + 64 ≤ length values.now }
     ensures { result ≡ packed (samples_from (above_at level) values.now i) 64 }
@@ -96,15 +93,13 @@ pub fn word_of(values: &[f64], level: Level, i: usize, n: usize) -> u64
     let threshold = level.threshold;
     let rule = level.rule;
     let number = rule_number(rule);
+    let eights = n / 8;
     let mut word: u64 = 0;
-    let mut left = n;
-    while left % 8 != 0 {
-        left -= 1;
-        word = word * 2 + bit_of(1, above(threshold, number, values[i + left]));
+    for j in (eights * 8..n).rev() {
+        word = word * 2 + u64::from(above(threshold, number, values[i + j]));
     }
-    while 0 < left {
-        left -= 8;
-        word = word * 256 + eight(values, threshold, number, i + left);
+    for k in (0..eights).rev() {
+        word = word * 256 + eight(values, threshold, number, i + k * 8);
     }
     word
 }
@@ -115,6 +110,55 @@ pub fn bit_at(word: u64, j: u32) -> bool
     ensures { result ≡ bit_at word j }
 {
     (word >> j) % 2 == 1
+}
+
+// The places of the bits of a word that are set, from the lowest to the highest, seen as the list of those that are left: `rest` has the bits from place
+// `at` on.
+#[derive(Drop)]
+pub struct SetBits {
+    rest: u64,
+    at: u32,
+}
+
+impl Model for SetBits {
+    ghost use Rattle.std.specs.Prelude.{ℕ, List, ◌-◌, ◌^◌, ◌≤◌, ◌<◌};
+    ghost use Rattle.words.specs.Bits.{set_from};
+
+    ghost Value = { List ℕ };
+
+    ghost view = { λ it. set_from it.rest it.at };
+
+    ghost invariant = { λ it. (it.at ≤ 64) × (it.rest < 2 ^ (64 - it.at)) };
+}
+
+impl Iterator for SetBits {
+    ghost use Rattle.std.specs.Iterator.{YieldsFirst, item_count};
+
+    type Item = u32;
+
+    ghost next_gives = { YieldsFirst (λ left. left) };
+
+    ghost remaining = { item_count (λ left. left) };
+
+    #[inline]
+    fn next(&mut self) -> Option<u32> {
+        if self.rest == 0 {
+            return None;
+        }
+        let skipped = self.rest.trailing_zeros();
+        let place = self.at + skipped;
+        self.rest = (self.rest >> skipped) / 2;
+        self.at = place + 1;
+        Some(place)
+    }
+}
+
+// The places of the bits of `word` that are set.
+#[inline]
+pub fn set_bits(word: u64) -> SetBits
+    ensures { result ≡ set_bits word }
+{
+    SetBits { rest: word, at: 0 }
 }
 
 // Sixty-four neighbouring cells of a row, by their four samples: bit `j` of each word is a sample of cell `j`.
@@ -130,7 +174,7 @@ pub struct Pane {
 fn one_left(word: u64, before: bool) -> u64
     ensures { result ≡ moved_in word before }
 {
-    word % 9223372036854775808 * 2 + bit_of(1, before)
+    word % 9223372036854775808 * 2 + u64::from(before)
 }
 
 // The cells whose right samples these are, with the samples on the left of the first.
@@ -189,8 +233,8 @@ pub fn tally_of(pane: Pane, changes: u64) -> Tally
     let opening = lower ^ (lower & (above | left));
     let closing = upper ^ (upper & (below | right));
     Tally {
-        segments: u64::count_ones(changes) + u64::count_ones(lower & upper),
-        opened: u64::count_ones(opening),
-        closed: u64::count_ones(closing),
+        segments: changes.count_ones() + (lower & upper).count_ones(),
+        opened: opening.count_ones(),
+        closed: closing.count_ones(),
     }
 }

@@ -4,7 +4,8 @@ use Prim.Native.Nat.{◌≤◌}
 use native.Mathlib.Omega.{arith}
 use lib.ListN.{length, get_or-eq_default}
 use borrow.Author.Rules.{rules}
-use Rattle.scope.specs.Cells.{Left, ◌⟶◌, case_table, drawn}
+use Rattle.scope.specs.declared.Side.TheVariants.{Left}
+use Rattle.scope.specs.Cells.{◌⟶◌, case_table, drawn}
 use Rattle.cells.specs.Sides.{stroke_at}
 use Rattle.cells.proofs.Laws.{a-cell-draws-at-most-two, past-the-table-nothing-is-drawn}
 use Rattle.cells.proofs.Table.{the-table-holds}

@@ -2,13 +2,14 @@
 use mathlib.Core.List.{List, [], ◌∷◌}
 use Prim.Native.Nat.{ℕ}
 use native.Mathlib.Omega.{arith}
+use Rattle.scope.specs.declared.Side.{Side}
 use Rattle.scope.specs.Cells.{case_table, drawn}
-use Rattle.cells.specs.Sides.{numbered, stroke_at}
+use Rattle.cells.specs.Sides.{sides_of, stroke_at}
 use Rattle.drawing.proofs.FirstStrokes.{at-keys, at_others, none-past-the-table}
 use Rattle.drawing.proofs.first_to.Goals as goal
 
-abbrev side : ℕ → ℕ
-side n = (numbered (stroke_at n 0)).to
+abbrev side : ℕ → Side
+side n = (sides_of (stroke_at n 0)).to
 
 abbrev arm-1 : List ℕ
 arm-1 = 2 ∷ 6 ∷ 14 ∷ []

@@ -39,8 +39,8 @@ returns c =
     rw (
       c.point_index-4.ensures,
       c.point_index-3.ensures,
-      c.one_before-2.ensures,
+      c.saturating_sub-2.ensures,
       c.point_index-2.ensures,
       c.point_index.ensures,
-      c.one_before.ensures,
+      c.saturating_sub.ensures,
     )

@@ -1,12 +1,7 @@
--- `giving::file_lines` meets its contract. The loop's invariant: the table is the definition's, filed as far as slot i. The measure is the number of slots left.
--- Assumes nothing.
+-- `giving::file_lines` meets its contract. The loop's invariant: the table is the definition's, filed as far as slot i. Assumes nothing.
 use mathlib.Core.Path.{◌≡◌}
-use Prim.Native.Nat.{◌-◌, ◌≤◌}
 use Rattle.giving.specs.Giving.{slots_filed}
 use Rattle.giving.proofs.file_lines.Given as goal
 
 abbrev pub invariant-loop-i : goal.invariant-loop-i
-invariant-loop-i l = (l.i ≤ l.count) × (l.lines ≡ slots_filed l.dx l.links l.initial.lines l.i)
-
-abbrev pub decreases-loop-i : goal.decreases-loop-i
-decreases-loop-i l = l.count - l.i
+invariant-loop-i l = l.lines ≡ slots_filed l.dx l.links l.initial.lines l.i

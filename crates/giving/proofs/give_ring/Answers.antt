@@ -9,7 +9,7 @@ returns c =
     rw (
       c.after_ring.ensures,
       c.release.ensures,
-      c.one_less-count.ensures,
+      c.saturating_sub-count.ensures,
       c.put_next.ensures,
       c.put_ring_record.ensures,
       c.write_ring.ensures,

@@ -1,5 +1,5 @@
 -- `giving::give_row` meets its contract. The loop's invariant: the tables and the counts are those after the cells of the words so far, and the samples on
--- the left of the next cell are known. The measure is the number of words left. Assumes nothing.
+-- the left of the next cell are known. Assumes nothing.
 use native.Mathlib.Omega.{arith}
 use Rattle.scope.specs.Limits.{side_limit}
 use Rattle.sweep.proofs.Rows.{beside-begins, beside-next, pane-between}
@@ -8,7 +8,7 @@ use Rattle.giving.specs.Giving.{row_given}
 use Rattle.giving.proofs.give_row.Goals as goal
 
 pub loop-w-init : goal.loop-w-init
-loop-w-init c = (beside-begins _ _, row-begun _ _, omega arith)
+loop-w-init c = (beside-begins _ _, row-begun _ _)
 
 pub overflow_mul-w : goal.overflow_mul-w
 unfolding side_limit
@@ -22,16 +22,12 @@ pub row_word-lower_word-requires : goal.row_word-lower_word-requires
 unfolding side_limit
 row_word-lower_word-requires c = omega (arith, c.requires.columns)
 
-pub overflow_mul-w-in-loop-w : goal.overflow_mul-w-in-loop-w
-unfolding side_limit
-overflow_mul-w-in-loop-w c = omega arith
-
 pub overflow_cast-w : goal.overflow_cast-w
 unfolding side_limit
 overflow_cast-w c = omega arith
 
-pub give_changes-next-requires : goal.give_changes-next-requires
-give_changes-next-requires c =
+pub give_changes-play-requires : goal.give_changes-play-requires
+give_changes-play-requires c =
     let upper-word = c.row_word-upper_word in
     let lower_word = c.row_word-lower_word in record {
       within = record { columns = c.requires.columns; column = omega arith; row = c.requires.row };
@@ -40,19 +36,13 @@ give_changes-next-requires c =
       changes_value = c.changes_in-changes.ensures;
     }
 
-pub overflow_add-w : goal.overflow_add-w
-unfolding side_limit
-overflow_add-w c =
-    omega (arith, c.loop-w-test.true, c.requires.columns)
-
 pub loop-w-preserved : goal.loop-w-preserved
 loop-w-preserved c =
     let so_far = c.loop-w.invariant in (
       beside-next _ _ _ c.row_word-upper_word.ensures c.row_word-lower_word.ensures c.bit_at-upper_left.ensures c.bit_at-lower_left.ensures,
-      word_more _ _ _ so_far.1 c.give_changes-next.ensures,
-      omega (arith, c.loop-w-test.true),
+      word_more _ _ _ so_far.1 c.give_changes-play.ensures,
     )
 
 pub returns : goal.returns
 unfolding row_given
-returns c = row-swept _ _ _ _ c.loop-w.invariant.1 (omega arith) c.loop-w.invariant.2
+returns c = row-swept _ _ _ _ c.loop-w.invariant.1 (omega arith) (omega arith)

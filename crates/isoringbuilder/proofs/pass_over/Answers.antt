@@ -1,6 +1,6 @@
 -- `isoringbuilder::pass_over` meets its contract: the scan's counts say what both tables need, and its marks which tiles the stitching pass looks at.
 -- Assumes nothing.
-use mathlib.Core.Path.{refl, ◌∙◌, ap}
+use mathlib.Core.Path.{◌∙◌, ap}
 use native.Mathlib.Omega.{arith}
 use Rattle.scope.specs.Room.{open_words, link_words}
 use Rattle.scan.specs.Scanned.{scanned}
@@ -9,8 +9,8 @@ use Rattle.grid.proofs.Laws.{a-grid-that-fits-is-sized}
 use Rattle.isoringbuilder.proofs.Passing.{lines-short, links-short, done}
 use Rattle.isoringbuilder.proofs.pass_over.Goals as goal
 
-pub scan-counts-requires : goal.scan-counts-requires
-scan-counts-requires c = record { sized = a-grid-that-fits-is-sized _ _ _ c.requires; marks_len = refl }
+pub invariant_of-grid : goal.invariant_of-grid
+invariant_of-grid c = record { sized = a-grid-that-fits-is-sized _ _ _ c.requires }
 
 pub open_words-requires : goal.open_words-requires
 open_words-requires c = (a-grid-that-fits-is-sized _ _ _ c.requires).columns
@@ -27,10 +27,6 @@ returns-then-links-link_words c =
     let open-need = c.open_words.ensures ∙ ap (λ (k : Counts). open_words c.args.dx k.peak) c.scan-counts.ensures.value in
     let link-need = c.link_words.ensures ∙ ap (λ (k : Counts). link_words k.segments) c.scan-counts.ensures.value in
     links-short _ _ _ _ _ _ c.requires (omega (arith, open-need)) (omega (arith, link-need))
-
-pub stitch-progress-requires : goal.stitch-progress-requires
-stitch-progress-requires c =
-    record { sized = a-grid-that-fits-is-sized _ _ _ c.requires; marked = c.scan-counts.ensures.marked }
 
 pub returns : goal.returns
 unfolding scanned

@@ -14,9 +14,6 @@ pub overflow_mul-w-in-loop-w : goal.overflow_mul-w-in-loop-w
 unfolding side_limit
 overflow_mul-w-in-loop-w c = omega arith
 
-pub lower_word-requires : goal.lower_word-requires
-lower_word-requires c = record { sized = c.requires.sized; c_le_dx = omega arith }
-
 pub offset_bounds-row-w : goal.offset_bounds-row-w
 unfolding side_limit
 offset_bounds-row-w c = omega arith

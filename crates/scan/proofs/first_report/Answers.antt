@@ -1,13 +1,13 @@
 -- `scan::first_report` meets its contract: `grid_fit` answers what its definition says, and a grid that fits can be scanned. Assumes nothing.
-use mathlib.Core.Path.{refl, sym, ◌∙◌}
+use mathlib.Core.Path.{sym, ◌∙◌}
 use Rattle.error.proofs.Passing.{passed-on}
 use Rattle.scan.specs.Scanned.{scanned}
 use Rattle.scan.specs.Report.{room_of, report_for, first_report}
 use Rattle.grid.proofs.Laws.{a-grid-that-fits-is-sized}
 use Rattle.scan.proofs.first_report.Goals as goal
 
-pub scan-counts-requires : goal.scan-counts-requires
-scan-counts-requires c = record { sized = a-grid-that-fits-is-sized _ _ _ (sym c.grid_fit.ensures ∙ c.in_ok-grid_fit.was); marks_len = refl }
+pub invariant_of-scan : goal.invariant_of-scan
+invariant_of-scan c = record { sized = a-grid-that-fits-is-sized _ _ _ (sym c.grid_fit.ensures ∙ c.in_ok-grid_fit.was) }
 
 pub returns-in_err-grid_fit : goal.returns-in_err-grid_fit
 unfolding first_report report_for

@@ -1,24 +1,19 @@
--- `stitching::draw_changes` meets its contract. The loop's invariant: the run is that after the cells that are seen, and the bits of the others are left. The
--- loop does not use the level, so the invariant says it of every level whose samples the pane shows. The measure is how many are
--- left. Assumes nothing.
+-- `stitching::draw_changes` meets its contract. The loop's invariant: the run is that after the cells that are seen, and the places of the other active ones
+-- are left. Assumes nothing.
 use mathlib.Core.Path.{◌≡◌}
-use Prim.Native.Nat.{ℕ, ◌-◌}
-use Rattle.scope.specs.declared.Level.{Level}
-use Rattle.scope.specs.Terrain.{Sheet, above_at, terrain}
-use Rattle.words.specs.Panes.{Shows}
+use mathlib.Core.List.{List}
+use Prim.Native.Nat.{ℕ}
+use Rattle.scope.specs.Terrain.{Sheet}
 use Rattle.machine.specs.Machine.{Run}
+use Rattle.scan.specs.Rows.{sheet_of}
 use Rattle.scan.proofs.Rows.{Unseen}
 use Rattle.drawing.specs.Values.{run_of}
 use Rattle.stitching.specs.Rows.{cells_drawn}
 use Rattle.stitching.proofs.draw_changes.Given as goal
 
--- the run is that after the cells up to this one, and the bits of the others are left
-abbrev pub Seen : Sheet → ℕ → Run → ℕ → ℕ → ℕ → ℕ → Run → Type 0
-Seen A dx run₀ r c at rest run = Unseen A r c at rest × (run ≡ cells_drawn A dx run₀ r c at)
+-- the run is that after the cells before cell `at`, and the others are left
+abbrev pub Seen : Sheet → ℕ → Run → ℕ → ℕ → List ℕ → Run → Type 0
+Seen A dx run₀ r c left run = (at : ℕ) × Unseen A r c at left × (run ≡ cells_drawn A dx run₀ r c at)
 
-abbrev pub invariant-loop-rest : goal.invariant-loop-rest
-invariant-loop-rest l = (level : Level) → Shows (terrain (above_at level) l.values l.dx l.dy) l.r l.c l.pane
-    → Seen (terrain (above_at level) l.values l.dx l.dy) l.dx (run_of l.initial.lines l.initial.links l.initial.run) l.r l.c l.at l.rest (run_of l.lines l.links l.run)
-
-abbrev pub decreases-loop-rest : goal.decreases-loop-rest
-decreases-loop-rest l = 64 - l.at
+abbrev pub invariant-loop-j : goal.invariant-loop-j
+invariant-loop-j l = Seen (sheet_of l.fn.grid l.fn.level) l.grid.dx (run_of l.initial.lines l.initial.links l.initial.run) l.r l.c l.j-iterator (run_of l.lines l.links l.run)

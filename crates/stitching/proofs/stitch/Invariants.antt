@@ -1,17 +1,11 @@
 -- `stitching::stitch` meets its contract. The loop's invariant: the run is the table machine's after the rows so far, and the words of the next row's upper
--- samples are kept. The measure is the number of rows left. Assumes nothing.
+-- samples are kept. Assumes nothing.
 use mathlib.Core.Path.{◌≡◌}
-use Prim.Native.Nat.{suc, ◌-◌, ◌≤◌}
-use Rattle.scope.specs.Terrain.{above_at, terrain}
-use Rattle.scan.specs.Rows.{Kept}
+use Rattle.scan.specs.Rows.{sheet_of, Kept}
 use Rattle.machine.specs.Machine.{run_after, run_over}
 use Rattle.drawing.specs.Values.{run_of}
 use Rattle.stitching.proofs.stitch.Given as goal
 
 abbrev pub invariant-loop-r : goal.invariant-loop-r
-invariant-loop-r l = (l.r ≤ suc l.dy)
-    × (run_of l.lines l.links l.run ≡ run_after (terrain (above_at l.level) l.values l.dx l.dy) l.dx (run_over l.initial.lines l.initial.links) l.r 0)
-    × Kept (terrain (above_at l.level) l.values l.dx l.dy) l.r l.row
-
-abbrev pub decreases-loop-r : goal.decreases-loop-r
-decreases-loop-r l = suc l.dy - l.r
+invariant-loop-r l = (run_of l.lines l.links l.run ≡ run_after (sheet_of l.grid l.level) l.grid.dx (run_over l.initial.lines l.initial.links) l.r 0)
+    × Kept (sheet_of l.grid l.level) l.r l.row

@@ -1,5 +1,5 @@
 -- `stitching::stitch_row` meets its contract. The loop's invariant: the words of the row are walked so far, and the run is that after the cells of these
--- words. The measure is the number of words left. Assumes nothing.
+-- words. Assumes nothing.
 use mathlib.Core.Path.{refl}
 use native.Mathlib.Omega.{arith}
 use Rattle.scope.specs.Limits.{side_limit}
@@ -10,20 +10,12 @@ use Rattle.stitching.proofs.stitch_row.Goals as goal
 
 pub loop-w-init : goal.loop-w-init
 loop-w-init c =
-    (walk_begins _ _ (terrain-outside _ _ _ _) c.requires.kept, row-begun _ _ _ _, omega arith)
-
-pub tile_of-requires : goal.tile_of-requires
-unfolding side_limit
-tile_of-requires c = (omega (arith, c.requires.sized.rows), omega arith)
+    (walk_begins _ _ (terrain-outside _ _ _ _) c.requires.kept, row-begun _ _ _ _)
 
 pub bounds-marks-tile_of : goal.bounds-marks-tile_of
 unfolding side_limit
 bounds-marks-tile_of c =
-    omega (arith, c.tile_of.ensures, a-tile-has-a-mark {r = c.args.r} {w = c.loop-w.w} (omega (arith, c.requires.sized.rows)) (omega arith))
-
-pub loop-w-smaller-then-marks-tile_of-eq0 : goal.loop-w-smaller-then-marks-tile_of-eq0
-unfolding side_limit
-loop-w-smaller-then-marks-tile_of-eq0 c = omega arith
+    omega (arith, c.tile_of.ensures, a-tile-has-a-mark {r = c.args.r} {w = c.loop-w.w} (omega (arith, c.args.grid.sized.rows)) (omega arith))
 
 pub loop-w-preserved-then-marks-tile_of-eq0 : goal.loop-w-preserved-then-marks-tile_of-eq0
 unfolding side_limit
@@ -32,32 +24,11 @@ loop-w-preserved-then-marks-tile_of-eq0 c =
     let quiet = c.requires.marked.marked c.args.r c.loop-w.w (omega arith) (omega arith) (rw (← c.tile_of.ensures) c.if-marks-tile_of-eq0.true) in (
       walk-goes-over _ _ so_far.0 quiet,
       quiet-word-more _ _ _ _ _ so_far.1 quiet,
-      omega arith,
     )
-
-pub bounds-row-w : goal.bounds-row-w
-unfolding side_limit
-bounds-row-w c = omega arith
-
-pub lower_word-lower_word-requires : goal.lower_word-lower_word-requires
-lower_word-lower_word-requires c = record { sized = c.requires.sized; c_le_dx = omega arith }
-
-pub bounds-row-w-in-loop-w : goal.bounds-row-w-in-loop-w
-unfolding side_limit
-bounds-row-w-in-loop-w c = omega arith
 
 pub draw_changes-run-requires : goal.draw_changes-run-requires
 draw_changes-run-requires c =
-    let so_far = c.loop-w.invariant in record { sized = c.requires.sized; r_le_dy = c.requires.r_le_dy; shows = pane-there _ _ so_far.0 refl c.lower_word-lower_word.ensures c.pane_of-pane.ensures; changes_value = c.changes_in-changes.ensures; next_bound = omega (arith, c.requires.dx_bound, row-few _ _ _ _ _ so_far.1) }
-
-pub overflow_add-w-in-loop-w : goal.overflow_add-w-in-loop-w
-overflow_add-w-in-loop-w c =
-    omega arith
-
-pub loop-w-smaller : goal.loop-w-smaller
-unfolding side_limit
-loop-w-smaller c =
-    omega arith
+    let so_far = c.loop-w.invariant in record { r_le_dy = c.requires.r_le_dy; shows = pane-there _ _ so_far.0 refl c.lower_word-lower_word.ensures c.pane_of-pane.ensures; changes_value = c.changes_in-changes.ensures; next_bound = omega (arith, c.requires.dx_bound, row-few _ _ _ _ _ so_far.1) }
 
 pub loop-w-preserved : goal.loop-w-preserved
 unfolding side_limit
@@ -65,7 +36,6 @@ loop-w-preserved c =
     let so_far = c.loop-w.invariant in (
       walk-goes-on _ _ so_far.0 refl c.lower_word-lower_word.ensures (omega arith) c.bit_at-upper.ensures c.bit_at-lower.ensures,
       word_more _ _ _ _ _ so_far.1 c.draw_changes-run.ensures,
-      omega arith,
     )
 
 pub returns : goal.returns

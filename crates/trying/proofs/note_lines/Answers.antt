@@ -1,5 +1,4 @@
--- `trying::note_lines` meets its contract. The loop's invariant: the lines of the slots so far are noted. The measure is how many
--- are left. Assumes nothing.
+-- `trying::note_lines` meets its contract. The loop's invariant: the lines of the slots so far are noted. Assumes nothing.
 use mathlib.Core.Path.{◌≡◌, ◌∙◌}
 use native.Mathlib.Omega.{arith}
 use Rattle.scope.specs.Limits.{side_limit}
@@ -12,7 +11,7 @@ unfolding side_limit
 overflow_add-dx c = omega arith
 
 pub loop-i-init : goal.loop-i-init
-loop-i-init c = (none-noted _ _ _, omega arith)
+loop-i-init c = none-noted _ _ _
 
 pub overflow_cast-start : goal.overflow_cast-start
 overflow_cast-start c = omega (arith, column-word-small _ _ c.requires c.column_word-start.ensures)
@@ -22,15 +21,10 @@ overflow_cast-end c = omega (arith, column-word-small _ _ c.requires c.column_wo
 
 pub loop-i-preserved : goal.loop-i-preserved
 loop-i-preserved c =
-    let so_far = c.loop-i.invariant in (
-      line-noted _ _ _ _ so_far.0 c.slot_at-line.ensures c.link_point.ensures c.column_word-start.ensures c.column_word-end.ensures
-          c.note.ensures,
-      omega arith,
-    )
+    line-noted _ _ _ _ c.loop-i.invariant c.slot_at-line.ensures c.link_point.ensures c.column_word-start.ensures c.column_word-end.ensures c.note.ensures
 
 pub returns : goal.returns
 unfolding frontier_noted
 returns c =
-    let so_far = c.loop-i.invariant in
     let all : c.loop-i.i ≡ c.args.count = omega arith in
-    so_far.0 ∙ rw (all, c.clear.ensures)
+    c.loop-i.invariant ∙ rw (all, c.clear.ensures)

@@ -1,12 +1,7 @@
--- `trying::note_lines` meets its contract. The loop's invariant: the lines of the slots so far are noted. The measure is how many
--- are left. Assumes nothing.
+-- `trying::note_lines` meets its contract. The loop's invariant: the lines of the slots so far are noted. Assumes nothing.
 use mathlib.Core.Path.{◌≡◌}
-use Prim.Native.Nat.{◌-◌, ◌≤◌}
 use Rattle.trying.specs.Notes.{slots_noted}
 use Rattle.trying.proofs.note_lines.Given as goal
 
 abbrev pub invariant-loop-i : goal.invariant-loop-i
-invariant-loop-i l = (l.lines ≡ slots_noted l.dx l.links l.initial.lines l.i) × (l.i ≤ l.count)
-
-abbrev pub decreases-loop-i : goal.decreases-loop-i
-decreases-loop-i l = l.count - l.i
+invariant-loop-i l = l.lines ≡ slots_noted l.dx l.links l.initial.lines l.i

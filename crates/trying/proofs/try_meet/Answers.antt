@@ -12,7 +12,7 @@ returns c =
     by-joining (tried_of c.args.words.now c.args.t) c.args.s c.args.e c.word.ensures c.place_in-start.ensures c.if-start-e.false
     (rw (
       c.word_of.ensures,
-      c.one_less.ensures,
+      c.saturating_sub.ensures,
       c.note.ensures,
       c.size_between-2.ensures.0,
       c.size_between.ensures.0,

@@ -1,5 +1,5 @@
 -- `trying::try_row` meets its contract. The loop's invariant: what is tried is what the cells of the words so far come to, and the samples on the left of the
--- next cell are known. The measure is the number of words left. Assumes nothing.
+-- next cell are known.  Assumes nothing.
 use native.Mathlib.Omega.{arith}
 use Rattle.scope.specs.Limits.{side_limit}
 use Rattle.sweep.proofs.Rows.{beside-begins, beside-next, pane-between}
@@ -8,7 +8,7 @@ use Rattle.trying.specs.Trying.{row_tried}
 use Rattle.trying.proofs.try_row.Goals as goal
 
 pub loop-w-init : goal.loop-w-init
-loop-w-init c = (beside-begins _ _, row-begun _ _, omega arith)
+loop-w-init c = (beside-begins _ _, row-begun _ _)
 
 pub overflow_mul-w : goal.overflow_mul-w
 unfolding side_limit
@@ -22,16 +22,12 @@ pub row_word-lower_word-requires : goal.row_word-lower_word-requires
 unfolding side_limit
 row_word-lower_word-requires c = omega arith
 
-pub overflow_mul-w-in-loop-w : goal.overflow_mul-w-in-loop-w
-unfolding side_limit
-overflow_mul-w-in-loop-w c = omega arith
-
 pub overflow_cast-w : goal.overflow_cast-w
 unfolding side_limit
 overflow_cast-w c = omega arith
 
-pub try_changes-next-requires : goal.try_changes-next-requires
-try_changes-next-requires c =
+pub try_changes-trial-requires : goal.try_changes-trial-requires
+try_changes-trial-requires c =
     let upper-word = c.row_word-upper_word in
     let lower_word = c.row_word-lower_word in record {
       dx_le_side_limit = (c.requires, omega arith);
@@ -40,18 +36,13 @@ try_changes-next-requires c =
       changes_value = c.changes_in-changes.ensures;
     }
 
-pub overflow_add-w : goal.overflow_add-w
-unfolding side_limit
-overflow_add-w c = omega arith
-
 pub loop-w-preserved : goal.loop-w-preserved
 loop-w-preserved c =
     let so_far = c.loop-w.invariant in (
       beside-next _ _ _ c.row_word-upper_word.ensures c.row_word-lower_word.ensures c.bit_at-upper_left.ensures c.bit_at-lower_left.ensures,
-      word_more _ _ _ so_far.1 c.try_changes-next.ensures,
-      omega arith,
+      word_more _ _ _ so_far.1 c.try_changes-trial.ensures,
     )
 
 pub returns : goal.returns
 unfolding row_tried
-returns c = row-swept _ _ _ _ c.loop-w.invariant.1 (omega arith) c.loop-w.invariant.2
+returns c = row-swept _ _ _ _ c.loop-w.invariant.1 (omega arith) (omega arith)

@@ -1,4 +1,4 @@
--- `words::eight_known` meets its contract: each part of the sum is its sample's, at most its weight, and the eight together are the packed samples. Assumes nothing.
+-- `words::eight_known` meets its contract: each part of the sum is its sample's, and the eight together are the packed samples. Assumes nothing.
 use Rattle.scope.specs.Terrain.{above_at}
 use Rattle.cells.specs.Rules.{level_of}
 use Rattle.words.proofs.Packing.{eight-samples}
@@ -8,21 +8,21 @@ pub returns : goal.returns
 returns c =
     let args = c.args in
     rw (
-      c.bit_of-8.ensures.0,
+      c.from-8.ensures,
       c.above-8.ensures,
-      c.bit_of-7.ensures.0,
+      c.from-7.ensures,
       c.above-7.ensures,
-      c.bit_of-6.ensures.0,
+      c.from-6.ensures,
       c.above-6.ensures,
-      c.bit_of-5.ensures.0,
+      c.from-5.ensures,
       c.above-5.ensures,
-      c.bit_of-4.ensures.0,
+      c.from-4.ensures,
       c.above-4.ensures,
-      c.bit_of-3.ensures.0,
+      c.from-3.ensures,
       c.above-3.ensures,
-      c.bit_of-2.ensures.0,
+      c.from-2.ensures,
       c.above-2.ensures,
-      c.bit_of.ensures.0,
+      c.from.ensures,
       c.above.ensures,
     )
     (eight-samples (above_at (level_of args.threshold args.number)) args.values.now args.i)

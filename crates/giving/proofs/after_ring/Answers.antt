@@ -1,6 +1,0 @@
--- `giving::after_ring` meets its contract: each count is the definition's. Assumes nothing.
-use Rattle.giving.proofs.after_ring.Goals as goal
-
-pub returns : goal.returns
-returns c =
-    rw (c.word_of-2.ensures, c.word_of.ensures, c.less.ensures)
