@@ -30,6 +30,7 @@ pub struct Points {
 }
 
 // The points on the sides of cell (`c`, `r`).
+#[tactic(auto, unfolding(scope::specs::Limits::side_limit, scope::specs::Cells::point_of, scope::specs::Cells::point_index))]
 pub fn points_of(dx: u32, c: u32, r: u32) -> Points
     requires { Within dx c r }
     ensures { result ≡ points_of dx c r }
@@ -89,6 +90,7 @@ pub fn word_at(dx: u32, c: u32, side: Side) -> usize
 
 // The side where the first stroke of the cell with this number starts: the left one where it draws none. No arm has two numbers in a row, so that the compiler
 // takes each arm for a list of numbers.
+#[tactic(auto, unfolding(scope::specs::Cells::drawn, scope::specs::Cells::case_table, cells::specs::Sides::stroke_at))]
 fn first_from(number: usize) -> Side
     ensures { result ≡ (sides_of (stroke_at number 0)).from }
 {
@@ -103,6 +105,7 @@ fn first_from(number: usize) -> Side
 }
 
 // The side where it ends.
+#[tactic(auto, unfolding(scope::specs::Cells::drawn, scope::specs::Cells::case_table, cells::specs::Sides::stroke_at))]
 fn first_to(number: usize) -> Side
     ensures { result ≡ (sides_of (stroke_at number 0)).to }
 {
