@@ -40,6 +40,7 @@ pub struct Play {
 }
 
 // The link that the next segment takes: the first free one, or else the number that was never used.
+#[tactic(auto, unfolding(crate::specs::Giving::link_taken))]
 fn link_taken(p: Play) -> u32
     ensures { result ≡ link_taken p }
 {
@@ -47,6 +48,7 @@ fn link_taken(p: Play) -> u32
 }
 
 // The stock without that link.
+#[tactic(auto, unfolding(crate::specs::Giving::stock_after))]
 fn stock_after(links: &[u32], p: Play) -> Play
     ensures { result ≡ stock_after links.now p }
 {
@@ -142,6 +144,7 @@ fn after_ring(p: Play, count: u32, first: u32, size: u32) -> Play
 }
 
 // The line of slot `f` closes: its ring and its record are written, then its links go in front of the free ones, and its slot is released.
+#[tactic(auto, unfolding(crate::specs::Giving::ring_given))]
 fn give_ring(
     lines: &mut [u32],
     links: &mut [u32],
