@@ -157,13 +157,7 @@ pub fn first_stroke(number: usize) -> Stroke
 
 // A stroke of a cell, drawn as the next link by the rule that its sides call for: by whether a line may end where it starts, and whether one may
 // start where it ends. `connect` is called in two places so that the compiler leaves it a call, and puts the rest into the arms of `draw_cell`.
-fn draw_stroke(
-    lines: &mut [u32],
-    links: &mut [u32],
-    before: Run,
-    cell: Cell,
-    stroke: Stroke,
-) -> Run
+fn draw_stroke(lines: &mut [u32], links: &mut [u32], before: Run, cell: Cell, stroke: Stroke) -> Run
     requires { before.next + 1 < 2 ^ 32 }
     ensures { run_of lines.new links.new result
         ≡ stroke_drawn cell.dx cell.c (edges_of cell.met) cell.at (run_of lines.old links.old before) (stroke.from ⟶ stroke.to) }
