@@ -1,9 +1,9 @@
 // The cells of a grid: the sample test, the cell number, the case table, the change that a cell makes, and the index of a point.
 #![tactic(auto)]
 
-ghost use Rattle.std.specs.Prelude.{◌≡◌, ◌+◌, ◌*◌, ◌^◌, ◌≤◌, ◌<◌, length};
+ghost use Rattle.std.specs.Prelude.{◌≡◌, ◌+◌, ◌*◌, ◌^◌, ◌<◌, length};
 ghost use Rattle.scope.specs.Terrain.{above_at};
-ghost use Rattle.scope.specs.Cells.{when, number_of, drawn, opened, closed, point_index, indexed_point};
+ghost use Rattle.scope.specs.Cells.{number_of, drawn, opened, closed, point_index, indexed_point};
 ghost use Rattle.cells.specs.Sides.{sides_of, stroke_at};
 ghost use Rattle.cells.specs.Rules.{rule_of, level_of, rule_number};
 
@@ -23,6 +23,7 @@ pub fn above(threshold: f64, number: u32, value: f64) -> bool
 }
 
 // The rule of a number, for a caller who is lent no enum: 0 is at least, and any other number is more than.
+// Kept: a `From` for a rule would have to stand in `scope`, which holds definitions and no code.
 #[tactic(auto, unfolding(crate::specs::Rules::rule_of))]
 pub fn rule_of(number: u32) -> Rule
     ensures { result ≡ rule_of number }
@@ -76,6 +77,7 @@ pub struct Stroke {
 }
 
 // What stands in an unused place of the case table. No cell draws it.
+// Kept: as an `Option` a stroke would have to be taken out in every arm that draws one, where the row of the arm always has it.
 const UNUSED: Stroke = Stroke {
     from: Side::Left,
     to: Side::Left,

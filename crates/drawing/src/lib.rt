@@ -2,7 +2,7 @@
 // table machine is, which each contract cites.
 #![tactic(auto)]
 
-ghost use Rattle.std.specs.Prelude.{◌≡◌, ◌+◌, ◌-◌, ◌^◌, ◌<◌};
+ghost use Rattle.std.specs.Prelude.{◌≡◌, ◌+◌, ◌^◌, ◌<◌};
 ghost use Rattle.scope.specs.Cells.{◌⟶◌};
 ghost use Rattle.cells.specs.Sides.{sides_of, stroke_at};
 ghost use Rattle.machine.specs.Machine.{side_word, entry_of};

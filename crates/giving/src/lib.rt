@@ -176,6 +176,7 @@ fn give_ring(
 }
 
 // A stroke of a cell by the rule that its sides call for. One that closes a ring takes no link.
+// Kept: four tables beside each other, since the check does not know what tables in a struct of `&mut` hold once the struct is let go.
 fn give_stroke(
     lines: &mut [u32],
     links: &mut [u32],

@@ -3,7 +3,7 @@
 // anew from the slots. Every function is total: a word past the table's end reads as 0 and is not stored.
 #![tactic(auto)]
 
-ghost use Rattle.std.specs.Prelude.{◌≡◌, ◌-◌, ◌^◌, ◌≤◌, ◌<◌, max};
+ghost use Rattle.std.specs.Prelude.{◌≡◌, ◌^◌, ◌≤◌, ◌<◌};
 ghost use Rattle.scope.specs.Limits.{side_limit};
 ghost use Rattle.scope.specs.Cells.{◌⟶◌};
 ghost use Rattle.words.specs.Panes.{Shows, changes_in};
