@@ -1,9 +1,9 @@
 // The cells of a grid: the sample test, the cell number, the case table, the change that a cell makes, and the index of a point.
 #![tactic(auto)]
 
-ghost use Rattle.std.specs.Prelude.{◌≡◌, ◌+◌, ◌*◌, ◌^◌, ◌≤◌, ◌<◌, length};
+ghost use Rattle.std.specs.Prelude.{◌≡◌, ◌+◌, ◌*◌, ◌^◌, ◌<◌, length};
 ghost use Rattle.scope.specs.Terrain.{above_at};
-ghost use Rattle.scope.specs.Cells.{when, number_of, drawn, opened, closed, point_index, indexed_point};
+ghost use Rattle.scope.specs.Cells.{number_of, drawn, opened, closed, point_index, indexed_point};
 ghost use Rattle.cells.specs.Sides.{sides_of, stroke_at};
 ghost use Rattle.cells.specs.Rules.{rule_of, level_of, rule_number};
 
@@ -11,6 +11,7 @@ use scope::{Level, Rule, Side};
 
 // Whether a sample is above at the level of a threshold and a rule's number: its value is at least the threshold, or more than it. Where either is not a number
 // it is not above.
+#[tactic(auto, unfolding(scope::specs::Terrain::is_above, scope::specs::Terrain::above_at, crate::specs::Rules::rule_of, crate::specs::Rules::level_of))]
 pub fn above(threshold: f64, number: u32, value: f64) -> bool
     ensures { result ≡ above_at (level_of threshold number) value }
 {
@@ -22,6 +23,8 @@ pub fn above(threshold: f64, number: u32, value: f64) -> bool
 }
 
 // The rule of a number, for a caller who is lent no enum: 0 is at least, and any other number is more than.
+// Kept: a `From` for a rule would have to stand in `scope`, which holds definitions and no code.
+#[tactic(auto, unfolding(crate::specs::Rules::rule_of))]
 pub fn rule_of(number: u32) -> Rule
     ensures { result ≡ rule_of number }
 {
@@ -33,6 +36,7 @@ pub fn rule_of(number: u32) -> Rule
 }
 
 // The level of a threshold and a rule's number.
+#[tactic(auto, unfolding(crate::specs::Rules::level_of))]
 pub fn level_of(threshold: f64, number: u32) -> Level
     ensures { result ≡ level_of threshold number }
 {
@@ -41,24 +45,16 @@ pub fn level_of(threshold: f64, number: u32) -> Level
 }
 
 // The number of a rule.
+#[tactic(auto, unfolding(crate::specs::Rules::rule_number))]
 pub fn rule_number(rule: Rule) -> u32
     ensures { result ≡ rule_number rule }
 {
-    match rule {
-        Rule::AtLeast => 0,
-        Rule::MoreThan => 1,
-    }
-}
-
-// What a sample adds to the cell number: `weight` where it is above, else 0.
-fn share(weight: usize, sample: bool) -> usize
-    ensures { (result ≡ when weight sample) × (result ≤ weight) }
-{
-    if sample { weight } else { 0 }
+    rule as u32
 }
 
 // The number of a cell whose four samples are above or not: 1 for the lower left, 2 for the lower right, 4 for the upper right and
 // 8 for the upper left.
+#[tactic(auto, unfolding(scope::specs::Cells::number_of))]
 pub fn cell_number(
     lower_left: bool,
     lower_right: bool,
@@ -67,7 +63,10 @@ pub fn cell_number(
 ) -> usize
     ensures { result ≡ number_of lower_left lower_right upper_right upper_left }
 {
-    share(1, lower_left) + share(2, lower_right) + share(4, upper_right) + share(8, upper_left)
+    usize::from(lower_left)
+        + 2 * usize::from(lower_right)
+        + 4 * usize::from(upper_right)
+        + 8 * usize::from(upper_left)
 }
 
 // A segment of a cell, from one side to another.
@@ -78,6 +77,7 @@ pub struct Stroke {
 }
 
 // What stands in an unused place of the case table. No cell draws it.
+// Kept: as an `Option` a stroke would have to be taken out in every arm that draws one, where the row of the arm always has it.
 const UNUSED: Stroke = Stroke {
     from: Side::Left,
     to: Side::Left,
@@ -186,6 +186,7 @@ pub struct Change {
 }
 
 // The change of the cell with this number. Past the table nothing is drawn and nothing changes.
+#[tactic(auto, unfolding(scope::specs::Cells::opened, scope::specs::Cells::closed, scope::specs::Cells::met, scope::specs::Cells::on_finished, scope::specs::Cells::drawn, scope::specs::Cells::case_table))]
 pub fn change_of(number: usize) -> Change
     ensures { (result.opened ≡ opened number) × (result.closed ≡ closed number) × (result.segments ≡ length (drawn number)) }
 {
@@ -219,6 +220,7 @@ pub fn change_of(number: usize) -> Change
 }
 
 // The index of the point of doubled coordinates `x`, `y` in a grid of `dx` columns: x + 2(dx + 1)·y. The caller sees that it fits.
+#[tactic(auto, unfolding(scope::specs::Cells::point_index))]
 pub fn point_index(x: u32, y: u32, dx: u32) -> u32
     requires { point_index dx (record { x = x; y = y }) < 2 ^ 32 }
     ensures { result ≡ point_index dx (record { x = x; y = y }) }
@@ -235,6 +237,7 @@ pub struct Point {
 }
 
 // The point at an index: the way back from `point_index`, for a point whose x is below 2(dx + 1).
+#[tactic(auto, unfolding(scope::specs::Cells::indexed_point))]
 pub fn indexed_point(index: u32, dx: u32) -> Point
     requires { 2 * (dx + 1) < 2 ^ 32 }
     ensures { (result.x ≡ (indexed_point dx index).x) × (result.y ≡ (indexed_point dx index).y) }

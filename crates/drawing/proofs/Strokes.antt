@@ -1,8 +1,8 @@
 -- A stroke by the rule that its sides call for is the table machine's stroke, and a cell's none, one or two strokes are its cell: by the case table's row for
 -- the number. Assumes nothing.
-use mathlib.Core.Path.{◌≡◌, refl, ap, ◌∙◌}
+use mathlib.Core.Path.{◌≡◌, refl, ap, ap₂, ◌∙◌}
 use mathlib.Core.Bool.{Bool, true, false, not}
-use mathlib.Core.List.{[], ◌∷◌}
+use mathlib.Core.List.{List, [], ◌∷◌}
 use Prim.Native.Nat.{ℕ, zero, suc, ◌+◌, ◌^◌, ◌<◌}
 use native.Mathlib.Decide.{dec_lt}
 use native.Mathlib.Nat.{add-zero}
@@ -16,8 +16,9 @@ use Rattle.cells.specs.declared.Stroke as cells
 use Rattle.cells.specs.Sides.{sides_of}
 use Rattle.cells.proofs.Laws.{past-the-table-nothing-is-drawn}
 use Rattle.machine.specs.Machine.{Tables, Run, Entry, side_word, appended, prepended, started, entry_of, draw_stroke, draw_strokes}
-use Rattle.lines.specs.Values.{connected}
+use Rattle.lines.specs.Values.{edges_of, connected}
 use Rattle.drawing.specs.declared.Points.{Points}
+use Rattle.drawing.specs.declared.Cell.{Cell}
 use Rattle.drawing.specs.Values.{points_of, number_drawn, point_at, is_met, line_at, rule_drawn, stroke_drawn}
 
 -- a stroke from side x to side y, as the next link: which rule draws it, by what the two sides have
@@ -100,7 +101,7 @@ the-rule-is-the-machines dx c entry at t k Bottom Right h = refl
 the-rule-is-the-machines dx c entry at t k Bottom Top h = refl
 the-rule-is-the-machines dx c entry at t k Bottom Bottom h = absurd h
 
--- a stroke of cell (c, r) that the code has by its two sides, where the cell's points are known
+-- a stroke of cell (c, r), where the cell's points are known
 module _ (dx c r : ℕ) (entry : Entry) where
   abbrev placed_stroke : Run → Stroke → Run
   placed_stroke run (s ⟶ e) = record {
@@ -108,35 +109,41 @@ module _ (dx c r : ℕ) (entry : Entry) where
     next = run.next + 1;
   }
 
-  placed-stroke : (stroke : Stroke) (run : Run) →
-      T (crosses stroke) →
-      {at : Points} →
-      at ≡ points_of dx c r →
-      {code : cells.Stroke} →
-      code ≡ sides_of stroke →
-      stroke_drawn dx c entry at run (code.from ⟶ code.to) ≡ placed_stroke run stroke
-  placed-stroke (s ⟶ e) run h {at} points code =
-      ap (stroke_drawn dx c entry at run) (the-stroke-comes-back (s ⟶ e) code)
-      ∙ rw (
-        points,
+  placed-stroke : (stroke : Stroke) (run : Run) → T (crosses stroke) → stroke_drawn dx c entry (points_of dx c r) run stroke ≡ placed_stroke run stroke
+  placed-stroke (s ⟶ e) run h =
+      rw (
         the-rule-is-the-machines dx c entry (points_of dx c r) run.tables run.next s e h,
         the-point-of-a-side dx c r s,
         the-point-of-a-side dx c r e,
       )
 
--- a cell of number n, where its points are known, and the lines at its left and its top from before it
-module _ (dx c r number : ℕ) (run : Run) {n : ℕ} {entry : Entry} {at : Points} (points : at ≡ points_of dx c r) (before : entry ≡ entry_of dx run.tables.lines c)
-    (is : number ≡ n) where
+-- cell (c, r) at hand, with the lines that the frontier has at its left and its top
+pub record Here (dx c r : ℕ) (lines : List ℕ) (cell : Cell) : Type 0 where
+  pub place : (cell.dx ≡ dx) × (cell.c ≡ c) × (cell.r ≡ r)
+  pub lines-are : edges_of cell.met ≡ entry_of dx lines c
+
+-- a cell of number n, with the lines at its left and its top from before it
+module _ (dx c r number : ℕ) (run : Run) {n : ℕ} (cell : Cell) (here : Here dx c r run.tables.lines cell) (is : number ≡ n) where
+  abbrev before : Entry
+  before = entry_of dx run.tables.lines c
+
+  code-drawn : (run' : Run) (stroke : Stroke) → T (crosses stroke) → {code : cells.Stroke} → code ≡ sides_of stroke →
+      stroke_drawn cell.dx cell.c (edges_of cell.met) cell.at run' (code.from ⟶ code.to) ≡ placed_stroke dx c r before run' stroke
+  code-drawn run' stroke h code =
+      ap (stroke_drawn cell.dx cell.c (edges_of cell.met) cell.at run') (the-stroke-comes-back stroke code)
+      ∙ ap₂ (λ (entry : Entry) (at : Points). stroke_drawn cell.dx cell.c entry at run' stroke) here.lines-are cell.points_are
+      ∙ rw (here.place.0, here.place.1, here.place.2) (placed-stroke dx c r before stroke run' h)
+
   pub one-stroke : (stroke : Stroke) →
       drawn n ≡ (stroke ∷ []) →
       T (crosses stroke) →
       {code : cells.Stroke} →
       code ≡ sides_of stroke →
       {after : Run} →
-      after ≡ stroke_drawn dx c entry at run (code.from ⟶ code.to) →
+      after ≡ stroke_drawn cell.dx cell.c (edges_of cell.met) cell.at run (code.from ⟶ code.to) →
       after ≡ number_drawn dx run number c r
   unfolding draw_strokes
-  one-stroke (s ⟶ e) row h code a = rw (a ∙ placed-stroke dx c r entry (s ⟶ e) run h points code, is, row, before)
+  one-stroke (s ⟶ e) row h code a = rw (a ∙ code-drawn run (s ⟶ e) h code, is, row)
 
   pub two-strokes : (stroke stroke' : Stroke) →
       drawn n ≡ (stroke ∷ stroke' ∷ []) →
@@ -146,18 +153,17 @@ module _ (dx c r number : ℕ) (run : Run) {n : ℕ} {entry : Entry} {at : Point
       code ≡ sides_of stroke →
       code' ≡ sides_of stroke' →
       {after after' : Run} →
-      after ≡ stroke_drawn dx c entry at run (code.from ⟶ code.to) →
-      after' ≡ stroke_drawn dx c entry at after (code'.from ⟶ code'.to) →
+      after ≡ stroke_drawn cell.dx cell.c (edges_of cell.met) cell.at run (code.from ⟶ code.to) →
+      after' ≡ stroke_drawn cell.dx cell.c (edges_of cell.met) cell.at after (code'.from ⟶ code'.to) →
       after' ≡ number_drawn dx run number c r
   unfolding draw_strokes
   two-strokes (s ⟶ e) (s' ⟶ e') row h h' code code' {after} a b =
       let both : run.next + 1 + 1 ≡ run.next + 2 = omega arith in
       rw (
-        b ∙ placed-stroke dx c r entry (s' ⟶ e') after h' points code',
-        a ∙ placed-stroke dx c r entry (s ⟶ e) run h points code,
+        b ∙ code-drawn after (s' ⟶ e') h' code',
+        a ∙ code-drawn run (s ⟶ e) h code,
         is,
         row,
-        before,
         both,
         add-one run.next,
       )

@@ -1,6 +1,6 @@
 -- The code's values as the table machine has them: the points of a cell, the tables with the number of the next link, a stroke by its sides, and a cell by
 -- its number. Assumes nothing.
-use Rattle.std.specs.Prelude.{Bool, true, false, cond, List, ℕ, zero, suc, ◌+◌, ◌≤◌, length}
+use Rattle.std.specs.Prelude.{Bool, true, false, cond, List, ℕ, ◌+◌, ◌≤◌, length}
 use Rattle.scope.specs.Limits.{side_limit}
 use Rattle.scope.specs.declared.Side.{Side}
 use Rattle.scope.specs.declared.Side.TheVariants.{Left, Right, Top, Bottom}

@@ -2,10 +2,10 @@
 // table machine is, which each contract cites.
 #![tactic(auto)]
 
-ghost use Rattle.std.specs.Prelude.{◌≡◌, ◌+◌, ◌-◌, ◌^◌, ◌<◌};
+ghost use Rattle.std.specs.Prelude.{◌≡◌, ◌+◌, ◌^◌, ◌<◌};
 ghost use Rattle.scope.specs.Cells.{◌⟶◌};
 ghost use Rattle.cells.specs.Sides.{sides_of, stroke_at};
-ghost use Rattle.machine.specs.Machine.{side_word};
+ghost use Rattle.machine.specs.Machine.{side_word, entry_of};
 ghost use Rattle.lines.specs.Values.{edges_of};
 ghost use Rattle.drawing.specs.Values.{Within, points_of, run_of, number_drawn, point_at, is_met, line_at, stroke_drawn};
 
@@ -30,6 +30,7 @@ pub struct Points {
 }
 
 // The points on the sides of cell (`c`, `r`).
+#[tactic(auto, unfolding(scope::specs::Limits::side_limit, scope::specs::Cells::point_of, scope::specs::Cells::point_index))]
 pub fn points_of(dx: u32, c: u32, r: u32) -> Points
     requires { Within dx c r }
     ensures { result ≡ points_of dx c r }
@@ -41,6 +42,32 @@ pub fn points_of(dx: u32, c: u32, r: u32) -> Points
         right: point_index(x + 1, y, dx),
         top: point_index(x, y.saturating_sub(1), dx),
         bottom: point_index(x, y + 1, dx),
+    }
+}
+
+// A cell before it is drawn: its place in a grid of `dx` columns, the lines that the frontier has at its left and its top, and the points on its sides.
+#[derive(Clone, Copy)]
+pub struct Cell {
+    pub dx: u32,
+    pub c: u32,
+    pub r: u32,
+    pub met: Entry,
+    pub at: Points,
+    ghost points_are: { at ≡ points_of dx c r },
+}
+
+// Cell (`c`, `r`), whose lines the frontier has now.
+pub fn cell_of(lines: &[u32], dx: u32, c: u32, r: u32) -> Cell
+    requires { Within dx c r }
+    ensures place { (result.dx ≡ dx) × (result.c ≡ c) × (result.r ≡ r) }
+    ensures lines_met { edges_of result.met ≡ entry_of dx lines.now c }
+{
+    Cell {
+        dx,
+        c,
+        r,
+        met: entry_of(lines, dx, c),
+        at: points_of(dx, c, r),
     }
 }
 
@@ -89,6 +116,7 @@ pub fn word_at(dx: u32, c: u32, side: Side) -> usize
 
 // The side where the first stroke of the cell with this number starts: the left one where it draws none. No arm has two numbers in a row, so that the compiler
 // takes each arm for a list of numbers.
+#[tactic(auto, unfolding(scope::specs::Cells::drawn, scope::specs::Cells::case_table, cells::specs::Sides::stroke_at))]
 fn first_from(number: usize) -> Side
     ensures { result ≡ (sides_of (stroke_at number 0)).from }
 {
@@ -103,6 +131,7 @@ fn first_from(number: usize) -> Side
 }
 
 // The side where it ends.
+#[tactic(auto, unfolding(scope::specs::Cells::drawn, scope::specs::Cells::case_table, cells::specs::Sides::stroke_at))]
 fn first_to(number: usize) -> Side
     ensures { result ≡ (sides_of (stroke_at number 0)).to }
 {
@@ -126,33 +155,27 @@ pub fn first_stroke(number: usize) -> Stroke
     }
 }
 
-// A stroke of a cell in column `c`, drawn as the next link by the rule that its sides call for: by whether a line may end where it starts, and whether one may
+// A stroke of a cell, drawn as the next link by the rule that its sides call for: by whether a line may end where it starts, and whether one may
 // start where it ends. `connect` is called in two places so that the compiler leaves it a call, and puts the rest into the arms of `draw_cell`.
-fn draw_stroke(
-    lines: &mut [u32],
-    links: &mut [u32],
-    before: Run,
-    dx: u32,
-    c: u32,
-    met: Entry,
-    at: Points,
-    stroke: Stroke,
-) -> Run
+fn draw_stroke(lines: &mut [u32], links: &mut [u32], before: Run, cell: Cell, stroke: Stroke) -> Run
     requires { before.next + 1 < 2 ^ 32 }
     ensures { run_of lines.new links.new result
-        ≡ stroke_drawn dx c (edges_of met) at (run_of lines.old links.old before) (stroke.from ⟶ stroke.to) }
+        ≡ stroke_drawn cell.dx cell.c (edges_of cell.met) cell.at (run_of lines.old links.old before) (stroke.from ⟶ stroke.to) }
 {
     let p = before.progress;
     let k = before.next;
     let next = k + 1;
+    let dx = cell.dx;
+    let met = cell.met;
+    let at = cell.at;
     let from = stroke.from;
     let to = stroke.to;
     let s = point_at(at, from);
     let e = point_at(at, to);
     let f = line_at(met, from);
     let g = line_at(met, to);
-    let ws = word_at(dx, c, from);
-    let we = word_at(dx, c, to);
+    let ws = word_at(dx, cell.c, from);
+    let we = word_at(dx, cell.c, to);
     if meets(from) {
         if meets(to) {
             let progress = match from {
@@ -189,29 +212,28 @@ pub fn draw_cell(
     ensures { run_of lines.new links.new result
         ≡ number_drawn dx (run_of lines.old links.old before) number c r }
 {
-    let met = entry_of(lines, dx, c);
-    let at = points_of(dx, c, r);
+    let cell = cell_of(lines, dx, c, r);
     match number {
-        1 => draw_stroke(lines, links, before, dx, c, met, at, stroke_at(1, 0)),
-        2 => draw_stroke(lines, links, before, dx, c, met, at, stroke_at(2, 0)),
-        3 => draw_stroke(lines, links, before, dx, c, met, at, stroke_at(3, 0)),
-        4 => draw_stroke(lines, links, before, dx, c, met, at, stroke_at(4, 0)),
+        1 => draw_stroke(lines, links, before, cell, stroke_at(1, 0)),
+        2 => draw_stroke(lines, links, before, cell, stroke_at(2, 0)),
+        3 => draw_stroke(lines, links, before, cell, stroke_at(3, 0)),
+        4 => draw_stroke(lines, links, before, cell, stroke_at(4, 0)),
         5 => {
-            let one = draw_stroke(lines, links, before, dx, c, met, at, stroke_at(5, 0));
-            draw_stroke(lines, links, one, dx, c, met, at, stroke_at(5, 1))
+            let one = draw_stroke(lines, links, before, cell, stroke_at(5, 0));
+            draw_stroke(lines, links, one, cell, stroke_at(5, 1))
         }
-        6 => draw_stroke(lines, links, before, dx, c, met, at, stroke_at(6, 0)),
-        7 => draw_stroke(lines, links, before, dx, c, met, at, stroke_at(7, 0)),
-        8 => draw_stroke(lines, links, before, dx, c, met, at, stroke_at(8, 0)),
-        9 => draw_stroke(lines, links, before, dx, c, met, at, stroke_at(9, 0)),
+        6 => draw_stroke(lines, links, before, cell, stroke_at(6, 0)),
+        7 => draw_stroke(lines, links, before, cell, stroke_at(7, 0)),
+        8 => draw_stroke(lines, links, before, cell, stroke_at(8, 0)),
+        9 => draw_stroke(lines, links, before, cell, stroke_at(9, 0)),
         10 => {
-            let one = draw_stroke(lines, links, before, dx, c, met, at, stroke_at(10, 0));
-            draw_stroke(lines, links, one, dx, c, met, at, stroke_at(10, 1))
+            let one = draw_stroke(lines, links, before, cell, stroke_at(10, 0));
+            draw_stroke(lines, links, one, cell, stroke_at(10, 1))
         }
-        11 => draw_stroke(lines, links, before, dx, c, met, at, stroke_at(11, 0)),
-        12 => draw_stroke(lines, links, before, dx, c, met, at, stroke_at(12, 0)),
-        13 => draw_stroke(lines, links, before, dx, c, met, at, stroke_at(13, 0)),
-        14 => draw_stroke(lines, links, before, dx, c, met, at, stroke_at(14, 0)),
+        11 => draw_stroke(lines, links, before, cell, stroke_at(11, 0)),
+        12 => draw_stroke(lines, links, before, cell, stroke_at(12, 0)),
+        13 => draw_stroke(lines, links, before, cell, stroke_at(13, 0)),
+        14 => draw_stroke(lines, links, before, cell, stroke_at(14, 0)),
         _ => before,
     }
 }

@@ -16,7 +16,9 @@ use Rattle.cells.specs.Sides.{sides_of, stroke_at}
 use Rattle.words.specs.Panes.{active}
 use Rattle.words.proofs.Laws.{nothing-drawn}
 use Rattle.machine.specs.Machine.{Entry, Run, entry_of}
-use Rattle.drawing.proofs.Strokes.{NoneOf, no-stroke, the-stroke-comes-back}
+use Rattle.drawing.proofs.Strokes.{Here, NoneOf, no-stroke, the-stroke-comes-back}
+use Rattle.drawing.specs.declared.Cell.{Cell}
+use Rattle.lines.specs.Values.{edges_of}
 use Rattle.scan.proofs.Rows.{Next}
 use Rattle.sweep.specs.Sweep.{swept}
 use Rattle.sweep.proofs.Steps.{cells-more, cells_stay}
@@ -30,7 +32,14 @@ empty [] h = refl
 empty (x ∷ xs) h = absurd (omega (arith, h))
 
 module _ (dx c r number : ℕ) (g : Given) where
-  module _ {entry : Entry} (before : entry ≡ entry_of dx g.lines c) where
+  module _ (cell : Cell) (here : Here dx c r g.lines cell) where
+    code-given : (g' : Given) (σ : Stroke) {code : cells.Stroke} → code ≡ sides_of σ →
+        stroke_given cell.dx cell.c cell.r (edges_of cell.met) g' (code.from ⟶ code.to) ≡ stroke_given dx c r (entry_of dx g.lines c) g' σ
+    code-given g' σ code =
+        ap (stroke_given cell.dx cell.c cell.r (edges_of cell.met) g') (the-stroke-comes-back σ code)
+        ∙ ap (λ (entry : Entry). stroke_given cell.dx cell.c cell.r entry g' σ) here.lines-are
+        ∙ rw (here.place.0, here.place.1, here.place.2)
+
     -- one stroke, where the row of the number has one
     pub one-given : {n : ℕ} →
         number ≡ n →
@@ -38,11 +47,10 @@ module _ (dx c r number : ℕ) (g : Given) where
         {code : cells.Stroke} →
         code ≡ sides_of (stroke_at n 0) →
         {after : Given} →
-        after ≡ stroke_given dx c r entry g (code.from ⟶ code.to) →
+        after ≡ stroke_given cell.dx cell.c cell.r (edges_of cell.met) g (code.from ⟶ code.to) →
         after ≡ number_given dx r g number c
     unfolding number_given strokes_given
-    one-given {n} is row code given =
-        given ∙ ap (stroke_given dx c r entry g) (the-stroke-comes-back (stroke_at n 0) code) ∙ rw (is, row, before)
+    one-given {n} is row code given = given ∙ code-given g (stroke_at n 0) code ∙ rw (is, row)
 
     pub two-given : {n : ℕ} →
         number ≡ n →
@@ -52,14 +60,14 @@ module _ (dx c r number : ℕ) (g : Given) where
         code ≡ sides_of σ →
         code' ≡ sides_of σ' →
         {after after' : Given} →
-        after ≡ stroke_given dx c r entry g (code.from ⟶ code.to) →
-        after' ≡ stroke_given dx c r entry after (code'.from ⟶ code'.to) →
+        after ≡ stroke_given cell.dx cell.c cell.r (edges_of cell.met) g (code.from ⟶ code.to) →
+        after' ≡ stroke_given cell.dx cell.c cell.r (edges_of cell.met) after (code'.from ⟶ code'.to) →
         after' ≡ number_given dx r g number c
     unfolding number_given strokes_given
     two-given is σ σ' row code code' {after} given given' =
-        given' ∙ ap (stroke_given dx c r entry after) (the-stroke-comes-back σ' code')
-        ∙ ap (λ (x : Given). stroke_given dx c r entry x σ') (given ∙ ap (stroke_given dx c r entry g) (the-stroke-comes-back σ code))
-        ∙ rw (is, row, before)
+        given' ∙ code-given after σ' code'
+        ∙ ap (λ (x : Given). stroke_given dx c r (entry_of dx g.lines c) x σ') (given ∙ code-given g σ code)
+        ∙ rw (is, row)
 
   -- the numbers that draw nothing
   none-given : drawn number ≡ [] → g ≡ number_given dx r g number c

@@ -10,17 +10,17 @@ ghost use Rattle.scope.specs.Room.{directory_words};
 ghost use Rattle.words.specs.Panes.{Shows, changes_in};
 ghost use Rattle.machine.specs.Machine.{word_of};
 ghost use Rattle.lines.specs.Values.{edges_of};
-ghost use Rattle.drawing.specs.Values.{Within, points_of};
+ghost use Rattle.drawing.specs.Values.{Within};
 ghost use Rattle.sweep.specs.Sweep.{between, swept};
 ghost use Rattle.giving.specs.Giving.{link_taken, stock_after, ring_out, given_record, ring_given, stroke_given, number_given, cell_given, row_given, slots_filed};
 ghost use Rattle.giving.specs.Values.{given_of};
 
 use cells::{Stroke, stroke_at};
-use drawing::{Points, line_at, meets, point_at, points_of, word_at};
+use drawing::{Cell, cell_of, line_at, meets, point_at, word_at};
 use lent::put;
 use limits::RECORD_STRIDE;
 use lines::tables::{column_word, link_point, put_next, release, slot_at, word_of};
-use lines::{Entry, Progress, append, entry_of, join, prepend, start};
+use lines::{Progress, append, join, prepend, start};
 use measuring::{area_of, put_area};
 use packing::{next_link, put_index, put_record};
 use scan::ROW_WORDS;
@@ -40,6 +40,7 @@ pub struct Play {
 }
 
 // The link that the next segment takes: the first free one, or else the number that was never used.
+#[tactic(auto, unfolding(crate::specs::Giving::link_taken))]
 fn link_taken(p: Play) -> u32
     ensures { result ≡ link_taken p }
 {
@@ -47,6 +48,7 @@ fn link_taken(p: Play) -> u32
 }
 
 // The stock without that link.
+#[tactic(auto, unfolding(crate::specs::Giving::stock_after))]
 fn stock_after(links: &[u32], p: Play) -> Play
     ensures { result ≡ stock_after links.now p }
 {
@@ -142,6 +144,7 @@ fn after_ring(p: Play, count: u32, first: u32, size: u32) -> Play
 }
 
 // The line of slot `f` closes: its ring and its record are written, then its links go in front of the free ones, and its slot is released.
+#[tactic(auto, unfolding(crate::specs::Giving::ring_given))]
 fn give_ring(
     lines: &mut [u32],
     links: &mut [u32],
@@ -172,30 +175,27 @@ fn give_ring(
     after_ring(p, count, line.first, size)
 }
 
-// A stroke of a cell, whose lines and points these are, by the rule that its sides call for. One that closes a ring takes no link.
+// A stroke of a cell by the rule that its sides call for. One that closes a ring takes no link.
+// Kept: four tables beside each other, since the check does not know what tables in a struct of `&mut` hold once the struct is let go.
 fn give_stroke(
     lines: &mut [u32],
     links: &mut [u32],
     points: &mut [u16],
     directory: &mut [u32],
     p: Play,
-    dx: u32,
-    c: u32,
-    r: u32,
-    met: Entry,
-    at: Points,
+    cell: Cell,
     stroke: Stroke,
 ) -> Play
-    requires { at ≡ points_of dx c r }
     ensures { given_of lines.new links.new points.new directory.new result
-        ≡ stroke_given dx c r (edges_of met) (given_of lines.old links.old points.old directory.old p) (stroke.from ⟶ stroke.to) }
+        ≡ stroke_given cell.dx cell.c cell.r (edges_of cell.met) (given_of lines.old links.old points.old directory.old p) (stroke.from ⟶ stroke.to) }
 {
-    let s = point_at(at, stroke.from);
-    let e = point_at(at, stroke.to);
-    let f = line_at(met, stroke.from);
-    let g = line_at(met, stroke.to);
-    let ws = word_at(dx, c, stroke.from);
-    let we = word_at(dx, c, stroke.to);
+    let dx = cell.dx;
+    let s = point_at(cell.at, stroke.from);
+    let e = point_at(cell.at, stroke.to);
+    let f = line_at(cell.met, stroke.from);
+    let g = line_at(cell.met, stroke.to);
+    let ws = word_at(dx, cell.c, stroke.from);
+    let we = word_at(dx, cell.c, stroke.to);
     let ends = meets(stroke.from);
     let starts = meets(stroke.to);
     let k = link_taken(p);
@@ -237,221 +237,28 @@ fn give_cell(
     ensures { given_of lines.new links.new points.new directory.new result
         ≡ number_given dx r (given_of lines.old links.old points.old directory.old p) number c }
 {
-    let met = entry_of(lines, dx, c);
-    let at = points_of(dx, c, r);
+    let cell = cell_of(lines, dx, c, r);
     match number {
-        1 => give_stroke(
-            lines,
-            links,
-            points,
-            directory,
-            p,
-            dx,
-            c,
-            r,
-            met,
-            at,
-            stroke_at(1, 0),
-        ),
-        2 => give_stroke(
-            lines,
-            links,
-            points,
-            directory,
-            p,
-            dx,
-            c,
-            r,
-            met,
-            at,
-            stroke_at(2, 0),
-        ),
-        3 => give_stroke(
-            lines,
-            links,
-            points,
-            directory,
-            p,
-            dx,
-            c,
-            r,
-            met,
-            at,
-            stroke_at(3, 0),
-        ),
-        4 => give_stroke(
-            lines,
-            links,
-            points,
-            directory,
-            p,
-            dx,
-            c,
-            r,
-            met,
-            at,
-            stroke_at(4, 0),
-        ),
+        1 => give_stroke(lines, links, points, directory, p, cell, stroke_at(1, 0)),
+        2 => give_stroke(lines, links, points, directory, p, cell, stroke_at(2, 0)),
+        3 => give_stroke(lines, links, points, directory, p, cell, stroke_at(3, 0)),
+        4 => give_stroke(lines, links, points, directory, p, cell, stroke_at(4, 0)),
         5 => {
-            let one = give_stroke(
-                lines,
-                links,
-                points,
-                directory,
-                p,
-                dx,
-                c,
-                r,
-                met,
-                at,
-                stroke_at(5, 0),
-            );
-            give_stroke(
-                lines,
-                links,
-                points,
-                directory,
-                one,
-                dx,
-                c,
-                r,
-                met,
-                at,
-                stroke_at(5, 1),
-            )
+            let one = give_stroke(lines, links, points, directory, p, cell, stroke_at(5, 0));
+            give_stroke(lines, links, points, directory, one, cell, stroke_at(5, 1))
         }
-        6 => give_stroke(
-            lines,
-            links,
-            points,
-            directory,
-            p,
-            dx,
-            c,
-            r,
-            met,
-            at,
-            stroke_at(6, 0),
-        ),
-        7 => give_stroke(
-            lines,
-            links,
-            points,
-            directory,
-            p,
-            dx,
-            c,
-            r,
-            met,
-            at,
-            stroke_at(7, 0),
-        ),
-        8 => give_stroke(
-            lines,
-            links,
-            points,
-            directory,
-            p,
-            dx,
-            c,
-            r,
-            met,
-            at,
-            stroke_at(8, 0),
-        ),
-        9 => give_stroke(
-            lines,
-            links,
-            points,
-            directory,
-            p,
-            dx,
-            c,
-            r,
-            met,
-            at,
-            stroke_at(9, 0),
-        ),
+        6 => give_stroke(lines, links, points, directory, p, cell, stroke_at(6, 0)),
+        7 => give_stroke(lines, links, points, directory, p, cell, stroke_at(7, 0)),
+        8 => give_stroke(lines, links, points, directory, p, cell, stroke_at(8, 0)),
+        9 => give_stroke(lines, links, points, directory, p, cell, stroke_at(9, 0)),
         10 => {
-            let one = give_stroke(
-                lines,
-                links,
-                points,
-                directory,
-                p,
-                dx,
-                c,
-                r,
-                met,
-                at,
-                stroke_at(10, 0),
-            );
-            give_stroke(
-                lines,
-                links,
-                points,
-                directory,
-                one,
-                dx,
-                c,
-                r,
-                met,
-                at,
-                stroke_at(10, 1),
-            )
+            let one = give_stroke(lines, links, points, directory, p, cell, stroke_at(10, 0));
+            give_stroke(lines, links, points, directory, one, cell, stroke_at(10, 1))
         }
-        11 => give_stroke(
-            lines,
-            links,
-            points,
-            directory,
-            p,
-            dx,
-            c,
-            r,
-            met,
-            at,
-            stroke_at(11, 0),
-        ),
-        12 => give_stroke(
-            lines,
-            links,
-            points,
-            directory,
-            p,
-            dx,
-            c,
-            r,
-            met,
-            at,
-            stroke_at(12, 0),
-        ),
-        13 => give_stroke(
-            lines,
-            links,
-            points,
-            directory,
-            p,
-            dx,
-            c,
-            r,
-            met,
-            at,
-            stroke_at(13, 0),
-        ),
-        14 => give_stroke(
-            lines,
-            links,
-            points,
-            directory,
-            p,
-            dx,
-            c,
-            r,
-            met,
-            at,
-            stroke_at(14, 0),
-        ),
+        11 => give_stroke(lines, links, points, directory, p, cell, stroke_at(11, 0)),
+        12 => give_stroke(lines, links, points, directory, p, cell, stroke_at(12, 0)),
+        13 => give_stroke(lines, links, points, directory, p, cell, stroke_at(13, 0)),
+        14 => give_stroke(lines, links, points, directory, p, cell, stroke_at(14, 0)),
         _ => p,
     }
 }

@@ -1,18 +1,15 @@
--- A stroke by what its two sides have, where the words of the sides are known, and the meeting of two tips by the place that is noted. Assumes nothing.
-use mathlib.Core.Path.{◌≡◌, sym, ◌∙◌, ap}
+-- A stroke by what its two sides have, where the words of the sides are known. Assumes nothing.
+use mathlib.Core.Path.{◌≡◌}
 use mathlib.Core.Bool.{Bool, true, false}
 use Prim.Native.Nat.{ℕ, ◌^◌, ◌≤◌, ◌<◌}
 use native.Mathlib.Omega.{arith}
-use borrow.Author.Tests.{eq-eqb, ne_eqb}
-use lib.ListN.{get_or}
 use Rattle.scope.specs.Limits.{side_limit}
 use Rattle.scope.specs.declared.Side.{Side}
 use Rattle.scope.specs.declared.Side.TheVariants.{Left, Right, Top, Bottom}
 use Rattle.scope.specs.Cells.{◌⟶◌}
 use Rattle.machine.specs.Machine.{side_word}
 use Rattle.drawing.specs.Values.{is_met}
-use Rattle.trying.specs.Notes.{place_in}
-use Rattle.trying.specs.Trying.{Tried, open_tried, end_tried, start_tried, close_tried, join_tried, meet_tried, stroke_tried}
+use Rattle.trying.specs.Trying.{Tried, open_tried, end_tried, start_tried, meet_tried, stroke_tried}
 
 -- the frontier word of a side is a word's number
 pub side-word-small : (dx c : ℕ) (side : Side) → dx ≤ side_limit → c < 2 ^ 16 → side_word dx c side < 2 ^ 32
@@ -21,17 +18,6 @@ side-word-small dx c Left h k = omega arith
 side-word-small dx c Right h k = omega arith
 side-word-small dx c Top h k = omega arith
 side-word-small dx c Bottom h k = omega arith
-
--- the line that ends at word s, by the place that is noted there
-module _ (t : Tried) (s e : ℕ) {note start : ℕ} (read : note ≡ get_or t.words s 0) (is : start ≡ place_in note) where
-  place_read : place_in (get_or t.words s 0) ≡ start
-  place_read = sym (is ∙ ap place_in read)
-
-  pub by-closing : {after : Tried} → start ≡ e → after ≡ close_tried t s e → after ≡ meet_tried t s e
-  by-closing h a = a ∙ rw (eq-eqb (place_in (get_or t.words s 0)) e (place_read ∙ h))
-
-  pub by-joining : {after : Tried} → (start ≡ e → ⊥) → after ≡ join_tried t s e → after ≡ meet_tried t s e
-  by-joining h a = a ∙ rw (ne_eqb (place_in (get_or t.words s 0)) e (λ z. h (sym place_read ∙ z)))
 
 -- a stroke from side x to side y
 module _ (dx c : ℕ) (t : Tried) (x y : Side) {from to : Bool} (at_from : from ≡ is_met x) (at-to : to ≡ is_met y) {s e : ℕ} (is-s : s ≡ side_word dx c x)

@@ -3,7 +3,7 @@
 // anew from the slots. Every function is total: a word past the table's end reads as 0 and is not stored.
 #![tactic(auto)]
 
-ghost use Rattle.std.specs.Prelude.{◌≡◌, ◌-◌, ◌^◌, ◌≤◌, ◌<◌, max};
+ghost use Rattle.std.specs.Prelude.{◌≡◌, ◌^◌, ◌≤◌, ◌<◌};
 ghost use Rattle.scope.specs.Limits.{side_limit};
 ghost use Rattle.scope.specs.Cells.{◌⟶◌};
 ghost use Rattle.words.specs.Panes.{Shows, changes_in};
@@ -34,6 +34,7 @@ pub struct Trial {
 }
 
 // A place and fifteen bits as one word.
+#[tactic(auto, unfolding(crate::specs::Notes::note_of))]
 fn note_of(place: u32, half: u32) -> u32
     ensures { result ≡ note_of place half }
 {
@@ -41,6 +42,7 @@ fn note_of(place: u32, half: u32) -> u32
 }
 
 // The place that a note has.
+#[tactic(auto, unfolding(crate::specs::Notes::place_in))]
 fn place_in(note: u32) -> u32
     ensures { result ≡ place_in note }
 {
@@ -48,6 +50,7 @@ fn place_in(note: u32) -> u32
 }
 
 // The fifteen bits that a note has.
+#[tactic(auto, unfolding(crate::specs::Notes::half_in))]
 fn half_in(note: u32) -> u32
     ensures { (result ≡ half_in note) × (result < 2 ^ 15) }
 {
@@ -55,6 +58,7 @@ fn half_in(note: u32) -> u32
 }
 
 // The number of links of the line that starts at one word and ends at another.
+#[tactic(auto, unfolding(crate::specs::Notes::size_between))]
 fn size_between(words: &[u32], start: u32, end: u32) -> u32
     ensures { (result ≡ size_between words.now start end) × (result < 2 ^ 30) }
 {
@@ -62,6 +66,7 @@ fn size_between(words: &[u32], start: u32, end: u32) -> u32
 }
 
 // Notes a line of that many links at both its words.
+#[tactic(auto, unfolding(crate::specs::Notes::noted))]
 fn note(words: &mut [u32], start: u32, end: u32, size: u32)
     ensures { words.new ≡ noted words.old start end size }
 {
