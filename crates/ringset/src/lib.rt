@@ -1,14 +1,17 @@
 // The check of a ring set: whether words are points and a directory such as a reader takes, which is number 9 of document 01. It takes any words whatever.
 #![tactic(auto)]
 
-ghost use Rattle.std.specs.Prelude.{◌≡◌, ◌<◌, ◌%◌, length};
+ghost use Rattle.std.specs.Prelude.{◌≡◌, ◌+◌, ◌*◌, ◌^◌, ◌<◌, ◌%◌, length};
 ghost use Rattle.scope.specs.Area as Area;
 ghost use Rattle.scope.specs.GeoJson.{first_at, count_at, class_at, owner_at, area_low_at, area_high_at, unclosed, record_refused, ring_set_refused};
 ghost use Rattle.ringset.specs.OneRecord.{area_differs, shape_refused, owner_refused};
 
+mod set;
+
 use lent::word;
 use limits::{HOLE, NO_OWNER, POINT_LIMIT, POLYGON, RECORD_STRIDE};
 use measuring::measure;
+pub use set::RingSet;
 
 // A directory record. Its last two words are the ring's area in two's complement.
 #[derive(Clone, Copy)]
@@ -19,6 +22,15 @@ pub struct Record {
     pub owner: u32,
     pub area_low: u32,
     pub area_high: u32,
+}
+
+impl Record {
+    // The ring's area in two's complement, as one number of 64 bits.
+    pub fn area_bits(self) -> u64
+        ensures { result ≡ self.area_low + 2 ^ 32 * self.area_high }
+    {
+        u64::from(self.area_low) + 4294967296 * u64::from(self.area_high)
+    }
 }
 
 // Record `k` of a directory; its words are 0 past the end.
@@ -50,8 +62,7 @@ fn unclosed(words: &[u16]) -> bool
 fn area_differs(area: u64, record: Record) -> bool
     ensures { result ≡ area_differs area «record» }
 {
-    (record.area_low != (area % 4294967296) as u32)
-        | (record.area_high != (area / 4294967296) as u32)
+    area != record.area_bits()
 }
 
 // Whether number 9 refuses a record for its ring: the count, the range, a coordinate, the last point, the area or the class. It walks over the ring once.
@@ -123,12 +134,5 @@ pub fn ring_set_faulty(points: &[u16], directory: &[u32], rings: u32) -> bool
     if directory.len() < RECORD_STRIDE * (rings as usize) {
         return true;
     }
-    let mut k: u32 = 0;
-    while k < rings {
-        if record_faulty(points, directory, rings, k) {
-            return true;
-        }
-        k += 1;
-    }
-    false
+    (0..rings).any(|k| record_faulty(points, directory, rings, k))
 }
