@@ -6,7 +6,7 @@ ghost use Rattle.geojson.specs.Written.{length_answer, written_answer, text_afte
 
 use error::Refusal;
 use geotext::text_length;
-use ringset::ring_set_faulty;
+use ringset::RingSet;
 use writing::write_within;
 
 // How long a text is, or why there is none.
@@ -20,10 +20,10 @@ pub enum TextAnswer {
 pub fn geojson_length(points: &[u16], directory: &[u32], rings: u32) -> TextAnswer
     ensures { result ≡ length_answer points.now directory.now rings }
 {
-    if ring_set_faulty(points, directory, rings) {
-        return TextAnswer::Refused(Refusal::BadRingSet);
+    match RingSet::check(points, directory, rings) {
+        Err(why) => TextAnswer::Refused(why),
+        Ok(set) => TextAnswer::Bytes(text_length(set)),
     }
-    TextAnswer::Bytes(text_length(points, directory, rings))
 }
 
 // Writes the text of a ring set: one GeoJSON MultiPolygon. Bytes past the text stay, and a refusal changes nothing.
@@ -31,13 +31,14 @@ pub fn write_geojson(points: &[u16], directory: &[u32], rings: u32, text: &mut [
     ensures value { result ≡ written_answer points.now directory.now rings text.old }
     ensures text_after { text.new ≡ text_after points.now directory.now rings text.old }
 {
-    if ring_set_faulty(points, directory, rings) {
-        return TextAnswer::Refused(Refusal::BadRingSet);
-    }
-    let length = text_length(points, directory, rings);
+    let set = match RingSet::check(points, directory, rings) {
+        Err(why) => return TextAnswer::Refused(why),
+        Ok(set) => set,
+    };
+    let length = text_length(set);
     if (text.len() as u64) < length {
         return TextAnswer::Refused(Refusal::TextShort);
     }
-    write_within(points, directory, rings, length as usize, text);
+    write_within(set, length as usize, text);
     TextAnswer::Bytes(length)
 }
