@@ -34,6 +34,7 @@ impl Record {
 }
 
 // Record `k` of a directory; its words are 0 past the end.
+#[tactic(auto, unfolding(scope::specs::GeoJson::first_at, scope::specs::GeoJson::count_at, scope::specs::GeoJson::class_at, scope::specs::GeoJson::owner_at, scope::specs::GeoJson::area_low_at, scope::specs::GeoJson::area_high_at, scope::specs::Limits::record_stride))]
 pub fn record_at(directory: &[u32], k: u32) -> Record
     ensures { (result.first ≡ first_at directory.now k) × (result.count ≡ count_at directory.now k) × (result.class ≡ class_at directory.now k) × (result.owner ≡ owner_at directory.now k) × (result.area_low ≡ area_low_at directory.now k) × (result.area_high ≡ area_high_at directory.now k) }
 {
@@ -97,22 +98,15 @@ fn shape_faulty(points: &[u16], record: Record) -> bool
 
 // Whether number 9 refuses record `k` for its owner: a polygon owns itself, a hole has a polygon's number or `NO_OWNER`. The class of the record that the
 // owner's number names is whatever it may be where there is none.
+#[tactic(auto, unfolding(crate::specs::OneRecord::owner_refused, scope::specs::Limits::no_owner))]
 fn owner_faulty(record: Record, rings: u32, k: u32, owner_class: u32) -> bool
     ensures { result ≡ owner_refused «record» rings k owner_class }
 {
-    if record.class == POLYGON {
-        return record.owner != k;
+    match record.class {
+        POLYGON => record.owner != k,
+        HOLE => record.owner != NO_OWNER && (rings <= record.owner || owner_class != POLYGON),
+        _ => false,
     }
-    if record.class != HOLE {
-        return false;
-    }
-    if record.owner == NO_OWNER {
-        return false;
-    }
-    if rings <= record.owner {
-        return true;
-    }
-    owner_class != POLYGON
 }
 
 // Whether number 9 refuses record `k` of a set of as many rings as are stated.
