@@ -31,6 +31,7 @@ const ZERO: u8 = b'0';
 const FRAME_LENGTH: u64 = 40;
 
 // The number of bytes of a digit: 0 where the number is below its unit.
+#[tactic(auto, unfolding(crate::specs::Pieces::digit_text))]
 fn digit_length(n: u16, unit: u16) -> u64
     ensures { (result ≡ length (digit_text n unit)) × (result ≤ 1) }
 {
@@ -48,6 +49,7 @@ fn coordinate_length(doubled: u16) -> u64
 }
 
 // Writes the digit that counts a unit, where the number has one, and answers the number of the byte behind it.
+#[tactic(auto, unfolding(crate::specs::Pieces::digit_text))]
 fn put_digit(text: &mut [u8], at: usize, n: u16, unit: u16) -> usize
     requires unit_nonzero { 0 < unit }
     requires unit_in_bounds { at + length (digit_text n unit) ≤ length text.old }
@@ -120,6 +122,7 @@ fn ring_length(points: &[u16], first: u32, count: u32) -> u64
 }
 
 // Which of a ring's points is the next, from 0, where so many of `count` are left to be written: backwards, or as stored.
+#[tactic(auto, unfolding(crate::specs::Pieces::next_of))]
 fn next_of(count: u32, left: u32, back: bool) -> u32
     requires left_nonzero { 0 < left }
     requires left_le_count { left ≤ count }
