@@ -6,8 +6,8 @@ ghost use Rattle.scope.specs.GeoJson.{ring_set_refused};
 use crate::ring_set_faulty;
 use error::Refusal;
 
-// Points and a directory of as many rings as are stated, such as number 9 does not refuse. That the words of the directory fit 32 bits is not known of a slice in a
-// field, so it stands here.
+// Points and a directory of as many rings as are stated, such as number 9 does not refuse. That each word of the directory fits 32 bits is not known of a
+// slice in a field, so it stands here.
 #[derive(Clone, Copy)]
 pub struct RingSet<'a> {
     pub points: &'a [u16],
