@@ -6,7 +6,14 @@ use Prim.Native.Nat.{ℕ, zero, suc, ◌+◌, ◌-◌, ◌*◌, ◌/◌, ◌%◌
 use native.Mathlib.Decide.{dec_lt}
 use native.Mathlib.Omega.{arith}
 use lib.Dec.{ltb, eqb}
-use lib.ListN.{length, length-append}
+use lib.ListN.{length, get_or, take, drop, length-append, get_or-eq_default}
+use lib.Seq.{get_or-take, get_or-drop}
+use mir.Syntax.{w16}
+use mir.Val.{Fits}
+use Rattle.std.specs.List.{sum_by}
+use Rattle.std.proofs.lemmas.List.{length-take}
+use Rattle.std.proofs.lemmas.List.Sums.{sum_by-cons}
+use Rattle.laws.proofs.Words.{words-in-length}
 use borrow.Author.Tests.{ltb-false, eqb-true, eqb-false}
 use Rattle.scope.specs.Limits.{coordinate_limit}
 use Rattle.scope.specs.Stitching.{Line}
@@ -104,6 +111,30 @@ ring-length (x ∷ y ∷ ws) zero h more = absurd (omega arith)
 ring-length (x ∷ y ∷ ws) (suc n) h more =
     bracketed-length (joined (map point_text (points (x ∷ y ∷ ws))))
     ∙ omega (arith, joined_length (point_text (record { x = x; y = y })) (map point_text (points ws)), point-length x y, points-length ws n (omega arith))
+
+-- ---- the lengths of a ring's words
+
+total-by : (ws : List ℕ) → total letters ws ≡ sum_by letters ws
+unfolding total
+total-by [] = refl
+total-by (w ∷ ws) = rw (sum_by-cons letters w ws, total-by ws)
+
+each-short : (ws : List ℕ) → ((i : ℕ) → get_or ws i 0 < 2 ^ 16) → sum_by letters ws ≤ 7 * length ws
+each-short [] fits = omega arith
+each-short (w ∷ ws) fits = omega (arith, sum_by-cons letters w ws, coordinate-short w (fits 0), each-short ws (λ i. fits (suc i)))
+
+module _ (ps : List ℕ) (first count : ℕ) where
+  pub letters-short : ((i : ℕ) → Fits w16 (get_or ps i 0)) → sum_by letters (words_in ps first count) ≤ 7 * length (words_in ps first count)
+  unfolding words_in
+  letters-short fits = each-short (words_in ps first count) (λ i. by i (dec_lt i (2 * count)))
+    where
+      by : (i : ℕ) → Dec (i < 2 * count) → get_or (words_in ps first count) i 0 < 2 ^ 16
+      by i (yes h) = rw (get_or-take (2 * count) (drop (2 * first) ps) i 0 h ∙ get_or-drop (2 * first) ps i 0) (fits (2 * first + i)).fits
+      by i (no h) = rw (get_or-eq_default (words_in ps first count) 0 (let few : length (take (2 * count) (drop (2 * first) ps)) ≤ i = omega (arith, h, length-take (2 * count) (drop (2 * first) ps)) in few)) (omega arith)
+
+  pub ring_by_letters : 2 * (first + count) ≤ length ps → 0 < count → length (ring_text (points (words_in ps first count))) ≡ sum_by letters (words_in ps first count) + 4 * count + 1
+  ring_by_letters enough more =
+      ring-length (words_in ps first count) count (words-in-length ps first count enough) more ∙ rw (total-by (words_in ps first count))
 
 -- ---- a ring's text is as long backwards
 

@@ -1,22 +1,19 @@
--- The text of a point and of a ring piece by piece, and the two walks over the words of a ring: one writes the text, one adds up the lengths. Of each the
--- invariant says what is left. Assumes nothing.
+-- The text of a point and of a ring piece by piece, and the walk over the words of a ring that writes the text: its invariant says what is left.
+-- Assumes nothing.
 use mathlib.Core.Path.{◌≡◌, refl, sym, ap, ap₂, ◌∙◌}
 use mathlib.Core.Bool.{Bool, true, false, cond}
 use mathlib.Core.List.{List, [], ◌∷◌, ◌++◌, append_assoc, append-nil, reverse, reverse-cons}
-use Prim.Native.Nat.{ℕ, zero, suc, ◌+◌, ◌-◌, ◌*◌, ◌^◌, ◌≤◌, ◌<◌}
+use Prim.Native.Nat.{ℕ, zero, suc, ◌+◌, ◌-◌, ◌*◌, ◌≤◌, ◌<◌}
 use native.Mathlib.Decide.{dec_lt}
-use native.Mathlib.Numerals.{add-one}
 use native.Mathlib.Omega.{arith}
-use lib.ListN.{length, get_or, set, take, drop, length-reverse, drop_of_length-le, get_or-append}
+use lib.ListN.{length, get_or, set, drop, length-reverse, drop_of_length-le, get_or-append}
 use lib.Seq.{sets, drop-cons, get_or-append_seam, get_or-take, get_or-drop}
 use Rattle.scope.specs.Cells.{Point}
 use Rattle.scope.specs.Stitching.{Line}
 use Rattle.scope.specs.Area.{points}
 use Rattle.scope.specs.GeoJson.{words_in, coordinate_text, joined, bracketed, point_text, ring_text, written_order}
-use Rattle.laws.proofs.Total.{total}
 use Rattle.laws.proofs.Words.{words-in-length}
 use Rattle.geotext.specs.Pieces.{point_texts, next_of}
-use Rattle.geotext.proofs.Lengths.{coordinate-short, letters, ring-length}
 use Rattle.geotext.proofs.Runs.{Left, left-begin, left-room, left-next}
 
 -- ---- the pieces
@@ -66,12 +63,6 @@ point-of (x ∷ y ∷ ws) (suc k) h =
     let first : suc (suc (2 * k)) ≡ 2 * suc k = omega arith in
     let second : suc (suc (2 * k + 1)) ≡ 2 * suc k + 1 = omega arith in
     point-of ws k (omega arith) ∙ ap₂ (λ (i j : ℕ). record { x = word i; y = word j }) first second
-
-one_word : (ps : List ℕ) (i n : ℕ) → 0 < n → i + n ≤ length ps → take n (drop i ps) ≡ get_or ps i 0 ∷ take (n - 1) (drop (i + 1) ps)
-one_word ps i zero more h = absurd (omega arith)
-one_word ps i (suc n) more h =
-    let fewer : suc n - 1 ≡ n = omega arith in
-    rw (fewer, add-one, drop-cons ps i 0 (omega arith))
 
 -- ---- a list backwards
 
@@ -194,39 +185,3 @@ module _ {ps : List ℕ} {first count : ℕ} {back : Bool} {start : List ℕ} {a
         points-last last =
             let none = none_left ps first count back enough (left - 1) last in
             record { within = omega (arith, s.within); unwritten = rw none (rw none at points-behind) }
-
--- ---- the walk that adds up
-
--- the words from i up to the end are left, and no word so far has more than 7 bytes
-pub record LengthLeft (ps : List ℕ) (first count end i sum : ℕ) : Type 0 where
-  pub all : end ≡ 2 * first + 2 * count
-  pub within : i ≤ end
-  pub short : sum + 14 * first ≤ 7 * i
-  pub so_far : total letters (words_in ps first count) ≡ sum + total letters (take (end - i) (drop i ps))
-
-pub length-begin : (ps : List ℕ) (first count : ℕ) → LengthLeft ps first count (2 * first + 2 * count) (2 * first) 0
-unfolding words_in
-length-begin ps first count =
-    let words : 2 * first + 2 * count - 2 * first ≡ 2 * count = omega arith in
-    record { all = refl; within = omega arith; short = omega arith; so_far = rw words (omega arith) }
-
-module _ {ps : List ℕ} {first count end i sum : ℕ} (enough : 2 * (first + count) ≤ length ps) (s : LengthLeft ps first count end i sum) where
-  pub length-next : i < end → get_or ps i 0 < 2 ^ 16 → LengthLeft ps first count end (i + 1) (sum + letters (get_or ps i 0))
-  unfolding total
-  length-next more fits =
-      let fewer : end - i - 1 ≡ end - (i + 1) = omega arith in
-      let left : take (end - i) (drop i ps) ≡ get_or ps i 0 ∷ take (end - (i + 1)) (drop (i + 1) ps) =
-      one_word ps i (end - i) (omega arith) (omega (arith, s.all)) ∙ rw fewer in
-      record {
-        all = s.all;
-        within = omega arith;
-        short = omega (arith, s.short, coordinate-short (get_or ps i 0) fits);
-        so_far = omega (arith, s.so_far, ap (total letters) left);
-      }
-
-  pub length-end : end ≤ i → 0 < count → length (ring_text (points (words_in ps first count))) ≡ sum + 4 * count + 1
-  unfolding total
-  length-end done more =
-      let none : end - i ≡ 0 = omega arith in
-      let whole : length (words_in ps first count) ≡ 2 * count = words-in-length ps first count enough in
-      omega (arith, ring-length (words_in ps first count) count whole more, rw none at s.so_far)

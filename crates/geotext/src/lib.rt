@@ -5,32 +5,33 @@ ghost use Rattle.std.specs.Prelude.{◌≡◌, ◌+◌, ◌-◌, ◌*◌, ◌^�
 ghost use Rattle.std.proofs.lemmas.List.Edits.{sets};
 ghost use Rattle.scope.specs.Limits.{point_limit};
 ghost use Rattle.scope.specs.Area as Area;
-ghost use Rattle.scope.specs.GeoJson.{words_in, ring_set_refused, decimal, coordinate_text, point_text, ring_text, written_order, geo_json_text};
+ghost use Rattle.scope.specs.GeoJson.{words_in, decimal, coordinate_text, point_text, ring_text, written_order, geo_json_text};
 ghost use Rattle.ringset.specs.OneRecord.{shape_refused};
 ghost use Rattle.geotext.specs.Pieces.{digit_text, point_texts, next_of};
 ghost use Rattle.geotext.specs.Shares.{record_share};
 
 use limits::{NO_OWNER, POLYGON};
-use ringset::{Record, record_at};
+use ringset::{Record, RingSet, record_at};
 
 // The bytes of a text that are no digits of a whole number.
-const COMMA: u8 = 44;
+const COMMA: u8 = b',';
 
-const POINT: u8 = 46;
+const POINT: u8 = b'.';
 
-const FIVE: u8 = 53;
+const FIVE: u8 = b'5';
 
-const OPENING_BRACKET: u8 = 91;
+const OPENING_BRACKET: u8 = b'[';
 
-const CLOSING_BRACKET: u8 = 93;
+const CLOSING_BRACKET: u8 = b']';
 
 // The digit 0.
-const ZERO: u8 = 48;
+const ZERO: u8 = b'0';
 
 // The bytes of a text without polygons.
 const FRAME_LENGTH: u64 = 40;
 
 // The number of bytes of a digit: 0 where the number is below its unit.
+#[tactic(auto, unfolding(crate::specs::Pieces::digit_text))]
 fn digit_length(n: u16, unit: u16) -> u64
     ensures { (result ≡ length (digit_text n unit)) × (result ≤ 1) }
 {
@@ -44,19 +45,11 @@ fn coordinate_length(doubled: u16) -> u64
     let half = doubled / 2;
     let upper = digit_length(half, 10000) + digit_length(half, 1000);
     let lower = digit_length(half, 100) + digit_length(half, 10);
-    upper + lower + 1 + 2 * ((doubled % 2) as u64)
-}
-
-// Writes one byte of a text.
-fn put_byte(text: &mut [u8], at: usize, byte: u8)
-    ensures { text.new ≡ sets text.old at (byte ∷ []) }
-{
-    if at < text.len() {
-        text[at] = byte;
-    }
+    upper + lower + 1 + 2 * u64::from(doubled % 2)
 }
 
 // Writes the digit that counts a unit, where the number has one, and answers the number of the byte behind it.
+#[tactic(auto, unfolding(crate::specs::Pieces::digit_text))]
 fn put_digit(text: &mut [u8], at: usize, n: u16, unit: u16) -> usize
     requires unit_nonzero { 0 < unit }
     requires unit_in_bounds { at + length (digit_text n unit) ≤ length text.old }
@@ -122,17 +115,14 @@ fn ring_length(points: &[u16], first: u32, count: u32) -> u64
     if count == 0 {
         return 2;
     }
-    let mut i = 2 * (first as usize);
-    let end = i + 2 * (count as usize);
-    let mut sum: u64 = 0;
-    while i < end {
-        sum += coordinate_length(points[i]);
-        i += 1;
-    }
-    sum + 4 * (count as u64) + 1
+    let start = 2 * (first as usize);
+    let ring = &points[start..start + 2 * (count as usize)];
+    let letters: u64 = ring.iter().map(|word| coordinate_length(*word)).sum();
+    letters + 4 * u64::from(count) + 1
 }
 
 // Which of a ring's points is the next, from 0, where so many of `count` are left to be written: backwards, or as stored.
+#[tactic(auto, unfolding(crate::specs::Pieces::next_of))]
 fn next_of(count: u32, left: u32, back: bool) -> u32
     requires left_nonzero { 0 < left }
     requires left_le_count { left ≤ count }
@@ -157,11 +147,9 @@ fn put_points(
     ensures text_after { text.new ≡ sets text.old at (point_texts (written_order back (Area.points (words_in points.now first count)))) }
 {
     let mut place = at;
-    let mut left = count;
-    while 0 < left {
-        let i = 2 * (first as usize + next_of(count, left, back) as usize);
+    for left in (0..count).rev() {
+        let i = 2 * (first as usize + next_of(count, left + 1, back) as usize);
         place = put_point(text, place, points[i], points[i + 1]);
-        left -= 1;
         if 0 < left {
             text[place] = COMMA;
             place += 1;
@@ -209,22 +197,16 @@ fn framed(shares: u64) -> u64
     requires { shares < 2 ^ 63 }
     ensures { result ≡ 40 + (shares - 1) }
 {
-    if shares == 0 {
-        return FRAME_LENGTH;
-    }
-    FRAME_LENGTH + shares - 1
+    FRAME_LENGTH + shares.saturating_sub(1)
 }
 
 // The number of bytes of the text of a checked ring set. It does not depend on the order of the rings, so one walk over the records gives it.
-pub fn text_length(points: &[u16], directory: &[u32], rings: u32) -> u64
-    requires { ring_set_refused points.now directory.now rings ≡ false }
-    ensures { result ≡ length (geo_json_text points.now directory.now rings) }
+pub fn text_length(set: RingSet) -> u64
+    ensures { result ≡ length (geo_json_text set.entry.points.now set.entry.directory.now set.entry.rings) }
 {
     let mut sum: u64 = 0;
-    let mut k = 0;
-    while k < rings {
-        sum += share_of(points, record_at(directory, k));
-        k += 1;
+    for k in 0..set.rings {
+        sum += share_of(set.points, record_at(set.directory, k));
     }
     framed(sum)
 }

@@ -2,7 +2,7 @@
 // with. Every function is total: a word past a table's end reads as 0 and is not stored.
 #![tactic(auto)]
 
-ghost use Rattle.std.specs.Prelude.{◌≡◌, ◌%◌, ◌^◌, set};
+ghost use Rattle.std.specs.Prelude.{◌≡◌, ◌%◌, ◌^◌};
 ghost use Rattle.std.proofs.lemmas.List.Edits.{sets};
 ghost use Rattle.machine.specs.Machine.{link_next};
 ghost use Rattle.machine.specs.Walk.{index_words, point_words, walk_points, record_words, walk_records};
@@ -10,15 +10,6 @@ ghost use Rattle.packing.specs.Cleared.{cleared};
 
 use lent::{MARK, put, word};
 use limits::{LINE, NO_OWNER, SHORT_STRIDE};
-
-// Stores a word of the points. Past the end nothing is stored.
-fn put_coordinate(points: &mut [u16], i: usize, value: u16)
-    ensures { points.new ≡ set points.old i value }
-{
-    if i < points.len() {
-        points[i] = value;
-    }
-}
 
 // A number as a word holds it, modulo 2^32.
 fn word_of(n: u64) -> u32
@@ -42,8 +33,8 @@ pub fn put_index(points: &mut [u16], dx: u32, index: u32, at: usize)
     let x = (index as u64 % stride % 65536) as u16;
     let y = (index as u64 / stride % 65536) as u16;
     if at < points.len() {
-        put_coordinate(points, at, x);
-        put_coordinate(points, at + 1, y);
+        put(points, at, x);
+        put(points, at + 1, y);
     }
 }
 

@@ -2,7 +2,7 @@
 // past a table's end reads as 0 and is not stored.
 #![tactic(auto)]
 
-ghost use Rattle.std.specs.Prelude.{◌≡◌, [], ◌∷◌, ◌++◌, ◌+◌, ◌*◌, ◌/◌, ◌%◌, ◌^◌, ◌<◌, pos, set};
+ghost use Rattle.std.specs.Prelude.{◌≡◌, [], ◌∷◌, ◌++◌, ◌+◌, ◌*◌, ◌/◌, ◌%◌, ◌^◌, ◌<◌, pos};
 ghost use Rattle.std.proofs.lemmas.List.Edits.{sets};
 ghost use Rattle.scope.specs.Smoothing.{line_vertex};
 ghost use Rattle.scope.specs.Tables.{vertex_words};
@@ -12,21 +12,12 @@ ghost use Rattle.smoothing.specs.Values.{placing_of};
 ghost use Rattle.plotting.specs.Plot.{point_of, vertex_at};
 
 use cells::{Point, indexed_point};
-use lent::{MARK, word};
+use lent::{MARK, put, word};
 use limits::{RECORD_STRIDE, SHORT_STRIDE};
 use measuring::{put_area, turned};
 use packing::{next_link, put_record};
 use scope::Level;
 use smoothing::{Placement, line_vertex};
-
-// Stores a word of the points. Past the end nothing is stored.
-fn put_real(points: &mut [f64], i: usize, value: f64)
-    ensures { points.new ≡ set points.old i value }
-{
-    if i < points.len() {
-        points[i] = value;
-    }
-}
 
 // The start point of link `k`.
 fn start_of(links: &[u32], dx: u32, k: u32) -> Point
@@ -52,8 +43,8 @@ fn put_vertex(
 {
     let vertex = line_vertex(values, level, dx, dy, smooth, placement, point);
     if at < points.len() {
-        put_real(points, at, vertex.x);
-        put_real(points, at + 1, vertex.y);
+        put(points, at, vertex.x);
+        put(points, at + 1, vertex.y);
     }
 }
 

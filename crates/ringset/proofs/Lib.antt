@@ -3,5 +3,4 @@ pub mod Below
 pub mod Laws
 pub mod Words
 pub mod OneRecord
-pub mod Owned
 pub mod Judged

@@ -1,14 +1,17 @@
 // The check of a ring set: whether words are points and a directory such as a reader takes, which is number 9 of document 01. It takes any words whatever.
 #![tactic(auto)]
 
-ghost use Rattle.std.specs.Prelude.{◌≡◌, ◌<◌, ◌%◌, length};
+ghost use Rattle.std.specs.Prelude.{◌≡◌, ◌+◌, ◌*◌, ◌^◌, ◌<◌, ◌%◌, length};
 ghost use Rattle.scope.specs.Area as Area;
 ghost use Rattle.scope.specs.GeoJson.{first_at, count_at, class_at, owner_at, area_low_at, area_high_at, unclosed, record_refused, ring_set_refused};
 ghost use Rattle.ringset.specs.OneRecord.{area_differs, shape_refused, owner_refused};
 
+mod set;
+
 use lent::word;
 use limits::{HOLE, NO_OWNER, POINT_LIMIT, POLYGON, RECORD_STRIDE};
 use measuring::measure;
+pub use set::RingSet;
 
 // A directory record. Its last two words are the ring's area in two's complement.
 #[derive(Clone, Copy)]
@@ -21,7 +24,17 @@ pub struct Record {
     pub area_high: u32,
 }
 
+impl Record {
+    // The ring's area in two's complement, as one number of 64 bits.
+    pub fn area_bits(self) -> u64
+        ensures { result ≡ self.area_low + 2 ^ 32 * self.area_high }
+    {
+        u64::from(self.area_low) + 4294967296 * u64::from(self.area_high)
+    }
+}
+
 // Record `k` of a directory; its words are 0 past the end.
+#[tactic(auto, unfolding(scope::specs::GeoJson::first_at, scope::specs::GeoJson::count_at, scope::specs::GeoJson::class_at, scope::specs::GeoJson::owner_at, scope::specs::GeoJson::area_low_at, scope::specs::GeoJson::area_high_at, scope::specs::Limits::record_stride))]
 pub fn record_at(directory: &[u32], k: u32) -> Record
     ensures { (result.first ≡ first_at directory.now k) × (result.count ≡ count_at directory.now k) × (result.class ≡ class_at directory.now k) × (result.owner ≡ owner_at directory.now k) × (result.area_low ≡ area_low_at directory.now k) × (result.area_high ≡ area_high_at directory.now k) }
 {
@@ -50,8 +63,7 @@ fn unclosed(words: &[u16]) -> bool
 fn area_differs(area: u64, record: Record) -> bool
     ensures { result ≡ area_differs area «record» }
 {
-    (record.area_low != (area % 4294967296) as u32)
-        | (record.area_high != (area / 4294967296) as u32)
+    area != record.area_bits()
 }
 
 // Whether number 9 refuses a record for its ring: the count, the range, a coordinate, the last point, the area or the class. It walks over the ring once.
@@ -86,22 +98,15 @@ fn shape_faulty(points: &[u16], record: Record) -> bool
 
 // Whether number 9 refuses record `k` for its owner: a polygon owns itself, a hole has a polygon's number or `NO_OWNER`. The class of the record that the
 // owner's number names is whatever it may be where there is none.
+#[tactic(auto, unfolding(crate::specs::OneRecord::owner_refused, scope::specs::Limits::no_owner))]
 fn owner_faulty(record: Record, rings: u32, k: u32, owner_class: u32) -> bool
     ensures { result ≡ owner_refused «record» rings k owner_class }
 {
-    if record.class == POLYGON {
-        return record.owner != k;
+    match record.class {
+        POLYGON => record.owner != k,
+        HOLE => record.owner != NO_OWNER && (rings <= record.owner || owner_class != POLYGON),
+        _ => false,
     }
-    if record.class != HOLE {
-        return false;
-    }
-    if record.owner == NO_OWNER {
-        return false;
-    }
-    if rings <= record.owner {
-        return true;
-    }
-    owner_class != POLYGON
 }
 
 // Whether number 9 refuses record `k` of a set of as many rings as are stated.
@@ -123,12 +128,5 @@ pub fn ring_set_faulty(points: &[u16], directory: &[u32], rings: u32) -> bool
     if directory.len() < RECORD_STRIDE * (rings as usize) {
         return true;
     }
-    let mut k: u32 = 0;
-    while k < rings {
-        if record_faulty(points, directory, rings, k) {
-            return true;
-        }
-        k += 1;
-    }
-    false
+    (0..rings).any(|k| record_faulty(points, directory, rings, k))
 }

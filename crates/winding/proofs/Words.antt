@@ -1,42 +1,42 @@
--- The sign of an area, read off the two words that it is in a record: it is negative from a high word of 2^31 on, and positive where it is neither negative nor
--- 0. By these and the class it is known whether a ring is written backwards. Assumes nothing.
-use mathlib.Core.Path.{◌≡◌}
-use mathlib.Core.Bool.{not, ◌&&◌, ◌||◌}
-use Prim.Native.Nat.{ℕ, ◌+◌, ◌*◌, ◌^◌, ◌<◌, ◌≤◌}
-use native.Mathlib.Decide.{dec_le, ℕ_discrete}
+-- The sign of an area, read off the two words that it is in a record: they are the area as a signed number of 64 bits. By it and the class it is known whether
+-- a ring is written backwards. Assumes nothing.
+use mathlib.Core.Path.{◌≡◌, refl}
+use Prim.Native.Nat.{ℕ, suc, ◌+◌, ◌-◌, ◌*◌, ◌^◌, ◌<◌}
 use native.Mathlib.Omega.{arith}
-use lib.Dec.{leb, eqb}
-use borrow.Author.Tests.{lt-ltb, le-ltb, le-leb, lt-leb, eq-eqb, ne_eqb}
+use lib.IntN.{ℤ, pos, negsuc}
+use lib.Signed.{lt_z}
+use mir.Syntax.{w64}
+use mir.Val.{to_z, of_z}
+use borrow.Author.Tests.{le-ltb, eq-eqb, ne_eqb}
+use Rattle.std.proofs.lemmas.Int.{of_z-to_z}
 use Rattle.scope.specs.Area.{positive, negative, whole_from, area_from}
 use Rattle.scope.specs.GeoJson.{backwards}
 
-module _ (low high : ℕ) (fits : low < 2 ^ 32) where
-  negative-by-words : negative (area_from low high) ≡ leb (2 ^ 31) high
-  unfolding negative area_from whole_from
-  negative-by-words = by (dec_le (2 ^ 31) high)
-    where
-      by : Dec (2 ^ 31 ≤ high) → negative (area_from low high) ≡ leb (2 ^ 31) high
-      by (yes h) = rw (le-ltb (low + 2 ^ 32 * high) (2 ^ 63) (omega arith), le-leb (2 ^ 31) high h)
-      by (no h) = rw (lt-ltb (low + 2 ^ 32 * high) (2 ^ 63) (omega arith), lt-leb (2 ^ 31) high (omega arith))
+positive-test : (z : ℤ) → lt_z (pos 0) z ≡ positive z
+unfolding positive
+positive-test (pos n) = refl
+positive-test (negsuc n) = refl
 
-  positive-by-words : positive (area_from low high) ≡ not (leb (2 ^ 31) high || (eqb low 0 && eqb high 0))
-  unfolding positive area_from whole_from
-  positive-by-words = by (dec_le (2 ^ 31) high) (ℕ_discrete low 0) (ℕ_discrete high 0)
-    where
-      by : Dec (2 ^ 31 ≤ high) → Dec (low ≡ 0) → Dec (high ≡ 0) → positive (area_from low high) ≡ not (leb (2 ^ 31) high || (eqb low 0 && eqb high 0))
-      by (yes h) l k = rw (le-ltb (low + 2 ^ 32 * high) (2 ^ 63) (omega arith), le-leb (2 ^ 31) high h)
-      by (no h) (yes l) (yes k) = rw (l, k)
-      by (no h) (no l) k =
-          rw (lt-ltb (low + 2 ^ 32 * high) (2 ^ 63) (omega arith), lt-ltb 0 (low + 2 ^ 32 * high) (omega arith), lt-leb (2 ^ 31) high (omega arith), ne_eqb low 0 l)
-      by (no h) (yes l) (no k) =
-          rw (lt-ltb (low + 2 ^ 32 * high) (2 ^ 63) (omega arith), lt-ltb 0 (low + 2 ^ 32 * high) (omega arith), lt-leb (2 ^ 31) high (omega arith), eq-eqb low 0 l, ne_eqb high 0 k)
+negative-test : (z : ℤ) → lt_z z (pos 0) ≡ negative z
+unfolding negative
+negative-test (pos n) = le-ltb n 0 (omega arith)
+negative-test (negsuc n) = refl
+
+module _ (low high : ℕ) (low-fits : low < 2 ^ 32) (high-fits : high < 2 ^ 32) where
+  -- the two words are the area as it is signed, which a cast there and back leaves
+  area-signed : to_z w64 (of_z w64 (to_z w64 (low + 2 ^ 32 * high))) ≡ area_from low high
+  unfolding area_from whole_from
+  area-signed =
+      let back : of_z w64 (to_z w64 (low + 2 ^ 32 * high)) ≡ low + 2 ^ 32 * high = of_z-to_z w64 (low + 2 ^ 32 * high) (omega arith) in
+      let below : 2 ^ 64 - suc (low + 2 ^ 32 * high) ≡ 2 ^ 64 - 1 - (low + 2 ^ 32 * high) = omega arith in
+      rw back (rw below)
 
   -- an exterior
-  pub exterior-by-words : (class : ℕ) → class ≡ 0 → not (leb (2 ^ 31) high || (eqb low 0 && eqb high 0)) ≡ backwards class (area_from low high)
+  pub exterior-by-words : (class : ℕ) → class ≡ 0 → lt_z (pos 0) (to_z w64 (of_z w64 (to_z w64 (low + 2 ^ 32 * high)))) ≡ backwards class (area_from low high)
   unfolding backwards
-  exterior-by-words class e = rw (eq-eqb class 0 e, positive-by-words)
+  exterior-by-words class e = rw (area-signed, eq-eqb class 0 e) (positive-test (area_from low high))
 
   -- any other ring
-  pub hole-by-words : (class : ℕ) → (class ≡ 0 → ⊥) → leb (2 ^ 31) high ≡ backwards class (area_from low high)
+  pub hole-by-words : (class : ℕ) → (class ≡ 0 → ⊥) → lt_z (to_z w64 (of_z w64 (to_z w64 (low + 2 ^ 32 * high)))) (pos 0) ≡ backwards class (area_from low high)
   unfolding backwards
-  hole-by-words class e = rw (ne_eqb class 0 e, negative-by-words)
+  hole-by-words class e = rw (area-signed, ne_eqb class 0 e) (negative-test (area_from low high))

@@ -1,14 +1,13 @@
 -- `geojson::geojson_length` meets its contract: the set is refused, or its text has a length. Assumes nothing.
-use mathlib.Core.Path.{sym, ◌∙◌}
 use Rattle.geojson.proofs.Cases.{no_length, a-length}
 use Rattle.geojson.proofs.geojson_length.Goals as goal
 
-pub returns-then-ring_set_faulty : goal.returns-then-ring_set_faulty
-returns-then-ring_set_faulty c = no_length _ _ _ (sym c.ring_set_faulty.ensures ∙ c.if-ring_set_faulty.true)
+pub returns-in-Err : goal.returns-in-Err
+returns-in-Err c =
+    let why = c.in-Err.ensures in
+    rw why.0 (no_length _ _ _ why.1)
 
-pub text_length-requires : goal.text_length-requires
-text_length-requires c = sym c.ring_set_faulty.ensures ∙ c.if-ring_set_faulty.false
-
-pub returns : goal.returns
-returns c =
-    a-length _ _ _ (sym c.ring_set_faulty.ensures ∙ c.if-ring_set_faulty.false) c.text_length.ensures
+pub returns-in-Ok : goal.returns-in-Ok
+returns-in-Ok c =
+    let same = c.in-Ok.ensures in
+    a-length _ _ _ (rw (same.0, same.1, same.2) at c.in-Ok.set.checked) (rw (same.0, same.1, same.2) at c.text_length.ensures)

@@ -1,35 +1,39 @@
 -- `geojson::write_geojson` meets its contract: the set is refused, or the text is short, or it is written. Assumes nothing.
-use mathlib.Core.Path.{sym, ◌∙◌}
+use mathlib.Core.Path.{◌≡◌}
+use mathlib.Core.Bool.{false}
 use native.Mathlib.Omega.{arith}
+use lib.ListN.{length}
+use Rattle.scope.specs.GeoJson.{ring_set_refused, geo_json_text}
 use Rattle.geojson.proofs.Cases.{set-refused, text-short, text-written}
 use Rattle.geojson.proofs.write_geojson.Goals as goal
+use Rattle.geojson.proofs.write_geojson.Goals.{After-text_length-length}
 
-pub returns-then-ring_set_faulty : goal.returns-then-ring_set_faulty
-returns-then-ring_set_faulty c =
-    let said = set-refused _ _ _ c.args.text.now (sym c.ring_set_faulty.ensures ∙ c.if-ring_set_faulty.true) in
-    record { value = said.0; text_after = said.1 }
+-- the set that was checked is the caller's
+checked : (c : After-text_length-length) → ring_set_refused c.args.points.now c.args.directory.now c.args.rings ≡ false
+checked c = let same = c.in-Ok.ensures in rw (same.0, same.1, same.2) at c.in-Ok.set.checked
 
-pub text_length-length-requires : goal.text_length-length-requires
-text_length-length-requires c = sym c.ring_set_faulty.ensures ∙ c.if-ring_set_faulty.false
+-- and its text is as long as was found
+long : (c : After-text_length-length) → c.text_length-length.result ≡ length (geo_json_text c.args.points.now c.args.directory.now c.args.rings)
+long c = let same = c.in-Ok.ensures in rw (same.0, same.1, same.2) at c.text_length-length.ensures
+
+pub returns-in-Err : goal.returns-in-Err
+returns-in-Err c =
+    let why = c.in-Err.ensures in
+    let said = set-refused _ _ _ c.args.text.now why.1 in
+    record { value = rw why.0 said.0; text_after = said.1 }
 
 pub returns-then-text-length : goal.returns-then-text-length
 returns-then-text-length c =
-    let said = text-short _ _ _ c.args.text.now (sym c.ring_set_faulty.ensures ∙ c.if-ring_set_faulty.false) (omega (arith, c.text_length-length.ensures)) in
+    let d = (goal.at.returns-then-text-length c).After-text_length-length in
+    let said = text-short _ _ _ c.args.text.now (checked d) (omega (arith, long d)) in
     record { value = said.0; text_after = said.1 }
 
 pub write_within-requires : goal.write_within-requires
-write_within-requires c =
-    record {
-      rings_value = sym c.ring_set_faulty.ensures ∙ c.if-ring_set_faulty.false;
-      end_value = c.text_length-length.ensures;
-      end_in_bounds = omega (arith, c.text_length-length.ensures);
-    }
+write_within-requires c = record { end_value = c.text_length-length.ensures; end_in_bounds = omega arith }
 
 pub returns : goal.returns
 returns c =
-    let said = text-written _ _ _ c.args.text.now
-    (sym c.ring_set_faulty.ensures ∙ c.if-ring_set_faulty.false)
-    (omega (arith, c.text_length-length.ensures))
-    c.text_length-length.ensures
-    c.write_within.ensures in
+    let d = (goal.at.returns c).After-text_length-length in
+    let same = c.in-Ok.ensures in
+    let said = text-written _ _ _ c.args.text.now (checked d) (omega (arith, long d)) (long d) (rw (same.0, same.1, same.2) at c.write_within.ensures) in
     record { value = said.0; text_after = said.1 }

@@ -10,7 +10,7 @@ pub returns-then-at-points : goal.returns-then-at-points
 unfolding index_words indexed_point
 returns-then-at-points c =
     let at = c.args.at in
-    rw (c.put_coordinate-then-at-points.ensures, c.put_coordinate.ensures, add-one at)
+    rw (c.put-then-at-points.ensures, c.put.ensures, add-one at)
 
 pub returns-else-at-points : goal.returns-else-at-points
 returns-else-at-points c =

@@ -13,7 +13,7 @@ pub returns-then-at-points : goal.returns-then-at-points
 unfolding vertex_words vertex_of
 returns-then-at-points c =
     let args = c.args in
-    rw (c.put_real-then-at-points.ensures, c.put_real.ensures, add-one args.at, ← c.line_vertex-vertex.ensures)
+    rw (c.put-then-at-points.ensures, c.put.ensures, add-one args.at, ← c.line_vertex-vertex.ensures)
 
 pub returns-else-at-points : goal.returns-else-at-points
 returns-else-at-points c =

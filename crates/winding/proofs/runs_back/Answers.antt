@@ -1,14 +1,14 @@
--- `winding::runs_back` meets its contract: the class chooses between the two signs of the area, and each sign is read off the area's words. Assumes nothing.
+-- `winding::runs_back` meets its contract: the class chooses between the two signs of the area, which its two words give. Assumes nothing.
 use native.Mathlib.Omega.{arith}
 use Rattle.winding.proofs.Words.{exterior-by-words, hole-by-words}
 use Rattle.winding.proofs.runs_back.Goals as goal
 
 pub returns-then-ring-eq-POLYGON : goal.returns-then-ring-eq-POLYGON
 returns-then-ring-eq-POLYGON c =
-    let ring = c.args.ring in
-    exterior-by-words ring.area_low ring.area_high (omega arith) ring.class (omega arith)
+    rw (c.cast_signed-area.ensures, c.area_bits.ensures)
+    (exterior-by-words c.args.ring.area_low c.args.ring.area_high (omega arith) (omega arith) c.args.ring.class (omega arith))
 
-pub returns : goal.returns
-returns c =
-    let ring = c.args.ring in
-    hole-by-words ring.area_low ring.area_high (omega arith) ring.class (λ e. omega arith)
+pub returns-else-ring-eq-POLYGON : goal.returns-else-ring-eq-POLYGON
+returns-else-ring-eq-POLYGON c =
+    rw (c.cast_signed-area.ensures, c.area_bits.ensures)
+    (hole-by-words c.args.ring.area_low c.args.ring.area_high (omega arith) (omega arith) c.args.ring.class (λ e. omega arith))
