@@ -19,9 +19,7 @@ pub fn own_contour(points: &[u16], directory: &mut [u32], n: usize, scratch: &mu
 {
     note_rings(points, directory, n, false);
     let filing = file(points, directory, n, scratch);
-    let rings = filing.rings;
-    let chunks = filing.chunks;
-    own_all(points, directory, scratch, n, rings, chunks);
+    own_all(points, directory, scratch, n, filing);
 }
 
 // Sorts the first `n` records by the third word of each. The scratch table holds anything afterwards.
@@ -43,8 +41,6 @@ pub fn own_band(points: &[u16], directory: &mut [u32], n: usize, scratch: &mut [
     note_high(points, directory, n);
     sort_first(directory, n, scratch);
     let filing = file(points, directory, n, scratch);
-    let rings = filing.rings;
-    let chunks = filing.chunks;
-    class_all(points, directory, scratch, n, rings, chunks);
-    own_all(points, directory, scratch, n, rings, chunks);
+    class_all(points, directory, scratch, n, filing);
+    own_all(points, directory, scratch, n, filing);
 }

@@ -1,11 +1,11 @@
--- `owners::reach_at` meets its contract: the code's test is the definition's. Assumes nothing.
+-- `owners::Search::reach_at` meets its contract: the code's test is the definition's. Assumes nothing.
 use mathlib.Core.Path.{◌≡◌}
 use Prim.Native.Nat.{◌≤◌, ◌<◌}
 use borrow.Author.Tests.{lt-ltb, le-ltb}
 use Rattle.extents.specs.declared.Extent.{Extent}
 use Rattle.extents.specs.Extents.{everything, reach}
 use Rattle.extents.specs.Ladders.{item_extent}
-use Rattle.owners.proofs.reach_at.Goals as goal
+use Rattle.owners.proofs.Search.reach_at.Goals as goal
 
 -- more than one row, or one alone
 module _ (e f : Extent) (same : e ≡ f) where

@@ -1,11 +1,11 @@
--- `owners::record_takes` meets its contract: the words that are read are the two records' rings. Assumes nothing.
-use mathlib.Core.Path.{◌≡◌}
+-- `owners::Search::record_takes` meets its contract: the words that are read are the two records' rings. Assumes nothing.
+use mathlib.Core.Path.{◌≡◌, refl}
 use mathlib.Core.List.{List}
 use Prim.Native.Nat.{ℕ, ◌+◌, ◌*◌, ◌<◌}
 use lib.ListN.{get_or}
 use Rattle.extents.specs.Points.{ring_in, RingThere}
 use Rattle.extents.specs.Records.{record_first, record_count, record_ring, RingsThere}
-use Rattle.owners.proofs.record_takes.Goals as goal
+use Rattle.owners.proofs.Search.record_takes.Goals as goal
 
 -- the two words of a record are its ring
 module _ (points directory : List ℕ) (r first count : ℕ) (at_first : first ≡ get_or directory (4 * r) 0) (at_count : count ≡ get_or directory (4 * r + 1) 0) where
@@ -19,17 +19,17 @@ module _ (points directory : List ℕ) (r first count : ℕ) (at_first : first �
 
 pub takes-requires : goal.takes-requires
 takes-requires c =
-    let asked = c.requires in (
-      ring-at _ _ c.args.r _ _ c.word-outer_first.ensures c.word-outer_count.ensures _ asked.0 asked.2,
-      ring-at _ _ c.args.at _ _ c.word-first.ensures c.word-count.ensures _ asked.0 asked.3,
-      asked.1,
+    let filed = c.args.self.now.filed in (
+      ring-at _ _ c.args.r _ _ refl refl _ filed.rings-there c.requires.0,
+      ring-at _ _ c.args.at _ _ refl refl _ filed.rings-there c.requires.1,
+      filed.points-chunked,
     )
 
 pub returns : goal.returns
 returns c =
+    let search = c.args.self.now in
     rw (
-      ← ring_of c.args.points.now c.args.directory.now c.args.r _ _ c.word-outer_first.ensures
-          c.word-outer_count.ensures,
-      ← ring_of c.args.points.now c.args.directory.now c.args.at _ _ c.word-first.ensures c.word-count.ensures,
+      ← ring_of search.points.now search.directory.now c.args.r _ _ refl refl,
+      ← ring_of search.points.now search.directory.now c.args.at _ _ refl refl,
     )
     c.takes.ensures

@@ -1,7 +1,7 @@
--- `owners::other_takes` meets its contract: the ring itself is none of the others, and any other is asked. Assumes nothing.
+-- `owners::Search::other_takes` meets its contract: the ring itself is none of the others, and any other is asked. Assumes nothing.
 use native.Mathlib.Omega.{arith}
 use Rattle.owners.proofs.Takers.{itself, another}
-use Rattle.owners.proofs.other_takes.Goals as goal
+use Rattle.owners.proofs.Search.other_takes.Goals as goal
 
 pub returns-then-at-r : goal.returns-then-at-r
 returns-then-at-r c = itself _ _ _ _ (omega (arith, c.rank_at-r.ensures.is-rank))
