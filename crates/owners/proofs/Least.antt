@@ -111,7 +111,7 @@ module _ (test : ℕ → Bool) (rank : ℕ → ℕ) (n : ℕ) where
       by (no ne) = let beaten = before k (omega arith) passes in (omega (arith, beaten.0), beaten.1)
 
   -- numbers that do not pass are passed over
-  least-over : (i j best : ℕ) → LeastTo test rank n i best → ((k : ℕ) → i ≤ k → k < j → test (rank k) ≡ false) → LeastTo test rank n j best
+  pub least-over : (i j best : ℕ) → LeastTo test rank n i best → ((k : ℕ) → i ≤ k → k < j → test (rank k) ≡ false) → LeastTo test rank n j best
   least-over i j best l none = record { beats = beaten; stands = l.stands }
     where
       by : (k : ℕ) → k < j → test (rank k) ≡ true → Dec (k < i) → (best ≤ rank k) × (rank k ≤ no_owner)
@@ -121,13 +121,11 @@ module _ (test : ℕ → Bool) (rank : ℕ → ℕ) (n : ℕ) where
       beaten : (k : ℕ) → k < j → test (rank k) ≡ true → (best ≤ rank k) × (rank k ≤ no_owner)
       beaten k below passes = by k below passes (dec_lt k i)
 
-  -- the numbers before the first that is looked at do not pass
-  pub least-begin : (i : ℕ) → ((k : ℕ) → 0 ≤ k → k < i → test (rank k) ≡ false) → LeastTo test rank n i no_owner
-  least-begin i none =
-      least-over 0 i no_owner (record { beats = λ k below passes. absurd (omega arith); stands = inl refl }) none
+  pub least-begin : LeastTo test rank n 0 no_owner
+  least-begin = record { beats = λ k below passes. absurd (omega arith); stands = inl refl }
 
   -- a number is looked at
-  least-seen : (i best best' : ℕ) → LeastTo test rank n i best → rank i < n → rank i ≤ no_owner →
+  pub least-seen : (i best best' : ℕ) → LeastTo test rank n i best → rank i < n → rank i ≤ no_owner →
       best' ≡ cond (ltb (rank i) best && test (rank i)) (rank i) best → LeastTo test rank n (i + 1) best'
   least-seen i best best' l below fits e = by (ltb (rank i) best) (test (rank i)) refl refl e
     where
@@ -148,12 +146,6 @@ module _ (test : ℕ → Bool) (rank : ℕ → ℕ) (n : ℕ) where
             beats = one-beaten best best' i l.beats (omega arith) (λ passes. (omega (arith, ltb-false (rank i) best f), fits));
             stands = rw q l.stands;
           }
-
-  -- a number is looked at, and those before the next that is looked at do not pass
-  pub least-next : {i best : ℕ} (best' j : ℕ) → LeastTo test rank n i best → rank i < n → rank i ≤ no_owner →
-      best' ≡ cond (ltb (rank i) best && test (rank i)) (rank i) best → ((k : ℕ) → i + 1 ≤ k → k < j → test (rank k) ≡ false) →
-      LeastTo test rank n j best'
-  least-next {i} {best} best' j l below fits e none = least-over (i + 1) j best' (least-seen i best best' l below fits e) none
 
 -- all rings are looked at
 pub least-end : (points directory : List ℕ) (at : ℕ) (rank : ℕ → ℕ) (n : ℕ) → Permutes rank n → (i best : ℕ) →

@@ -2,19 +2,20 @@
 // Both searches go through the rings by number: rings whose numbers are near lie near each other, and the ladder passes over those that lie apart.
 #![tactic(auto)]
 
-ghost use Rattle.std.specs.Prelude.{◌≡◌, ◌≤◌, ◌<◌, List, ℕ};
+ghost use Rattle.std.specs.Prelude.{◌≡◌, ◌-◌, ◌≤◌, ◌<◌, List, ℕ};
+ghost use Rattle.std.specs.Iterator.{at_most};
 ghost use Rattle.std.proofs.Common.{rules};
 ghost use Rattle.scope.specs.Contour.{takes};
 ghost use Rattle.extents.specs.Extents.{reach};
-ghost use Rattle.extents.specs.Ladders.{item_extent};
+ghost use Rattle.extents.specs.Ladders.{item_extent, Raised};
 ghost use Rattle.extents.specs.Records.{record_ring, rank_of, Filed};
 ghost use Rattle.owners.specs.Owned.{class_in, Classed, owner_in, Owned};
-ghost use Rattle.owners.specs.Searched.{takes_other, evenly_taken, bettered, first_taker, RankIs};
+ghost use Rattle.owners.specs.Searched.{takes_other, evenly_taken, bettered, first_taker, RankIs, NextFound, NearRing};
 ghost use Rattle.owners.specs.Once.{Filed-prop};
 ghost use Rattle.owners.specs.Stays.{class-stays, owner-stays};
 ghost use Rattle.owners.specs.Stored.{Beside, Stored};
 
-use extents::Extent;
+use extents::{Extent, Ladder};
 use filing::Filing;
 use limits::{HOLE, NO_OWNER, POLYGON, SHORT_STRIDE};
 
@@ -27,6 +28,34 @@ struct Search<'a> {
     n: usize,
     filing: Filing,
     ghost filed: { Filed points.now directory.now table.now n filing.rings filing.chunks } by { Filed-prop points.now directory.now table.now n filing.rings filing.chunks },
+}
+
+// The numbers of the rings that are not apart from an extent, in their order.
+#[derive(Drop)]
+struct Near<'a> {
+    table: &'a [u32],
+    rings: Ladder,
+    query: Extent,
+    next: usize,
+    ghost raised: { Raised table.now rings },
+    ghost within: { next ≤ rings.item_count },
+}
+
+impl Iterator for Near<'_> {
+    type Item = usize;
+
+    ghost next_gives = { λ s r t. (t.table.now ≡ s.table.now) × (t.rings ≡ s.rings) × (t.query ≡ s.query) × NextFound s.table.now s.rings s.query s.next r t.next };
+
+    ghost remaining = { λ s. at_most (s.rings.item_count - s.next) };
+
+    fn next(&mut self) -> Option<usize> {
+        let found = extents::next_near(self.table, self.rings, self.next, self.query);
+        if found == self.rings.item_count {
+            return None;
+        }
+        self.next = found + 1;
+        Some(found)
+    }
 }
 
 impl<'a> Search<'a> {
@@ -72,6 +101,19 @@ impl<'a> Search<'a> {
         }
     }
 
+    // The numbers of the rings that reach as far as a ring has to that takes the ring of a number.
+    fn near(&self, number: usize) -> Near<'_>
+        requires { number < self.now.n }
+        ensures { NearRing self.now.table.now self.now.filing.rings number result.table.now result.rings result.query result.next }
+    {
+        Near {
+            table: self.table,
+            rings: self.filing.rings,
+            query: self.reach_at(number),
+            next: 0,
+        }
+    }
+
     // Whether the ring of record `r` takes the ring of record `at`.
     fn record_takes(&self, r: usize, at: usize) -> bool
         requires { (r < self.now.n) × (at < self.now.n) }
@@ -110,12 +152,9 @@ impl<'a> Search<'a> {
         ensures { result ≡ evenly_taken self.now.points.now self.now.directory.now self.now.n (rank_of self.now.table.now self.now.n number) }
     {
         let at = self.rank_at(number) as usize;
-        let query = self.reach_at(number);
         let mut even = true;
-        let mut i = extents::next_near(self.table, self.filing.rings, 0, query);
-        while i < self.n {
+        for i in self.near(number) {
             even = even != self.other_takes(i, at);
-            i = extents::next_near(self.table, self.filing.rings, i + 1, query);
         }
         even
     }
@@ -157,12 +196,9 @@ impl<'a> Search<'a> {
         ensures { result ≡ first_taker self.now.points.now self.now.directory.now self.now.n (rank_of self.now.table.now self.now.n number) }
     {
         let at = self.rank_at(number) as usize;
-        let query = self.reach_at(number);
         let mut best = NO_OWNER;
-        let mut i = extents::next_near(self.table, self.filing.rings, 0, query);
-        while i < self.n {
+        for i in self.near(number) {
             best = self.better(i, at, best);
-            i = extents::next_near(self.table, self.filing.rings, i + 1, query);
         }
         best
     }

@@ -1,26 +1,23 @@
 -- `owners::Search::first_taker` meets its contract. The loop's invariant is `Choosing`: of the numbers so far, looked at or passed over, the best is the first polygon
--- that takes the ring. The measure is how many numbers are left. Assumes nothing.
-use native.Mathlib.Omega.{arith}
+-- that takes the ring. Assumes nothing.
 use Rattle.scope.specs.Limits.{no_owner}
-use Rattle.owners.proofs.Searches.{sought, choosing-begin, choosing-next, choosing-end}
+use Rattle.owners.proofs.Searches.{found-below, choosing-begin, choosing-next, choosing-end}
 use Rattle.owners.proofs.Search.first_taker.Goals as goal
 
 pub loop-i-init : goal.loop-i-init
 unfolding no_owner
 loop-i-init c =
-    choosing-begin (sought c.requires c.rank_at-at.ensures c.reach_at-query.ensures) c.next_near-i.ensures
+    rw c.into_iter-i-iterator.ensures.into_iter_gives (choosing-begin c.requires c.rank_at-at.ensures c.near-i-items.ensures)
 
 pub better-best-requires : goal.better-best-requires
 better-best-requires c =
-    (c.loop-i-test.true, c.loop-i.invariant.for-ring.ranked.below)
-
-pub loop-i-smaller : goal.loop-i-smaller
-loop-i-smaller c = omega (arith, c.next_near-i-in-loop-i.ensures.not-before)
+    let inv = c.loop-i.invariant in
+    (found-below inv.for-ring c.in-Some.ensures.steps.3.1, inv.for-ring.ranked.below)
 
 pub loop-i-preserved : goal.loop-i-preserved
 loop-i-preserved c =
-    let looked = c.better-best.ensures in
-    choosing-next c.loop-i.invariant looked.1 looked.0 c.next_near-i-in-loop-i.ensures
+    let found = c.in-Some.ensures.steps in
+    choosing-next c.loop-i.invariant (found.0, found.1, found.2) found.3.0 found.3.2 c.better-best.ensures.1 c.better-best.ensures.0
 
 pub returns : goal.returns
-returns c = choosing-end c.loop-i.invariant c.loop-i-test.false
+returns c = choosing-end c.loop-i.invariant c.in-None.ensures.steps.3

@@ -1,11 +1,7 @@
 -- `owners::Search::first_taker` meets its contract. The loop's invariant is `Choosing`: of the numbers so far, looked at or passed over, the best is the first polygon
--- that takes the ring. The measure is how many numbers are left. Assumes nothing.
-use Prim.Native.Nat.{◌-◌}
+-- that takes the ring. Assumes nothing.
 use Rattle.owners.proofs.Searches.{Choosing}
 use Rattle.owners.proofs.Search.first_taker.Given as goal
 
 abbrev pub invariant-loop-i : goal.invariant-loop-i
-invariant-loop-i l = Choosing l.self l.number l.at l.query l.best l.i
-
-abbrev pub decreases-loop-i : goal.decreases-loop-i
-decreases-loop-i l = l.self.n - l.i
+invariant-loop-i l = Choosing l.self l.number l.at l.best l.i-iterator
