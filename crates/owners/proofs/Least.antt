@@ -62,9 +62,24 @@ module _ (points directory : List ℕ) (at r best : ℕ) where
     unfolding bettered may_own
     not_taken e = rw (eq-eqb (record_class directory r) 0 polygon, ← asked, e) (and-false (ltb r best))
 
-    pub taken : r < best → b ≡ true → r ≡ bettered points directory at best r
+    before : r < best → b ≡ true → r ≡ bettered points directory at best r
     unfolding bettered may_own
-    taken h e = rw (eq-eqb (record_class directory r) 0 polygon, ← asked, e, lt-ltb r best h)
+    before h e = rw (eq-eqb (record_class directory r) 0 polygon, ← asked, e, lt-ltb r best h)
+
+    either : (t : Bool) → r ≡ cond t r r
+    either true = refl
+    either false = refl
+
+    here : r ≡ best → r ≡ bettered points directory at best r
+    unfolding bettered
+    here q = rw (← q) (either (ltb r r && may_own points directory at r))
+
+    pub taken : r ≤ best → b ≡ true → r ≡ bettered points directory at best r
+    taken h e = by (ℕ_discrete r best)
+      where
+        by : Dec (r ≡ best) → r ≡ bettered points directory at best r
+        by (yes q) = here q
+        by (no ne) = before (omega arith) e
 
 -- a polygon owns itself, and any other ring is owned by the first that may own it
 module _ (points directory : List ℕ) (n r : ℕ) where

@@ -1,5 +1,5 @@
 -- What one ring is to another while classes and owners are sought, by the records of both. Assumes nothing.
-use Rattle.std.specs.Prelude.{◌≡◌, Bool, cond, not, ◌&&◌, List, ℕ, Option, MatchOption, ◌+◌, ◌*◌, ◌%◌, ◌≤◌, ◌<◌, eqb, ltb, length}
+use Rattle.std.specs.Prelude.{◌≡◌, Bool, cond, not, ◌&&◌, List, ℕ, Option, Some, None, MatchOption, ◌+◌, ◌*◌, ◌%◌, ◌≤◌, ◌<◌, eqb, ltb, length}
 use Rattle.scope.specs.Limits.{no_owner}
 use Rattle.scope.specs.Contour.{takes, owner_from, owner_word}
 use Rattle.scope.specs.Band.{takers}
@@ -24,6 +24,11 @@ may_own points directory at r = eqb (record_class directory r) 0 && takes (recor
 -- record r where it comes before the best so far and may own that of record at, and otherwise the best so far
 unfoldable pub bettered : List ℕ → List ℕ → ℕ → ℕ → ℕ → ℕ
 bettered points directory at best r = cond (ltb r best && may_own points directory at r) r best
+
+-- the best so far as an owner's word
+abbrev pub best_word : Option ℕ → ℕ
+best_word None = no_owner
+best_word (Some r) = r
 
 -- the first polygon of n that takes the ring of record r, as an owner's word
 unfoldable pub first_taker : List ℕ → List ℕ → ℕ → ℕ → ℕ

@@ -10,7 +10,7 @@ ghost use Rattle.extents.specs.Extents.{reach};
 ghost use Rattle.extents.specs.Ladders.{item_extent, Raised};
 ghost use Rattle.extents.specs.Records.{record_ring, rank_of, Filed};
 ghost use Rattle.owners.specs.Owned.{class_in, Classed, owner_in, Owned};
-ghost use Rattle.owners.specs.Searched.{takes_other, evenly_taken, bettered, first_taker, RankIs, NextFound, NearRing};
+ghost use Rattle.owners.specs.Searched.{takes_other, evenly_taken, bettered, first_taker, RankIs, NextFound, NearRing, best_word};
 ghost use Rattle.owners.specs.Once.{Filed-prop};
 ghost use Rattle.owners.specs.Stays.{class-stays, owner-stays};
 ghost use Rattle.owners.specs.Stored.{Beside, Stored};
@@ -171,12 +171,14 @@ impl<'a> Search<'a> {
     }
 
     // The ring of a number where it comes before the best so far, is a polygon and takes the ring of record `at`, and otherwise the best so far.
-    fn better(&self, number: usize, at: usize, best: u32) -> u32
+    fn better(&self, number: usize, at: usize, best: Option<u32>) -> Option<u32>
         requires { (number < self.now.n) × (at < self.now.n) }
-        ensures { (result ≡ bettered self.now.points.now self.now.directory.now at best (rank_of self.now.table.now self.now.n number)) × RankIs self.now.table.now self.now.n number (rank_of self.now.table.now self.now.n number) }
+        ensures { (best_word result ≡ bettered self.now.points.now self.now.directory.now at (best_word best) (rank_of self.now.table.now self.now.n number)) × RankIs self.now.table.now self.now.n number (rank_of self.now.table.now self.now.n number) }
     {
         let rank = self.rank_at(number);
-        if best <= rank {
+        if let Some(first) = best
+            && first <= rank
+        {
             return best;
         }
         let r = rank as usize;
@@ -184,7 +186,7 @@ impl<'a> Search<'a> {
             return best;
         }
         if self.record_takes(r, at) {
-            rank
+            Some(rank)
         } else {
             best
         }
@@ -196,11 +198,11 @@ impl<'a> Search<'a> {
         ensures { result ≡ first_taker self.now.points.now self.now.directory.now self.now.n (rank_of self.now.table.now self.now.n number) }
     {
         let at = self.rank_at(number) as usize;
-        let mut best = NO_OWNER;
+        let mut best = None;
         for i in self.near(number) {
             best = self.better(i, at, best);
         }
-        best
+        best.unwrap_or(NO_OWNER)
     }
 
     // The owner of the ring of a number: a polygon owns itself, and any other has the first polygon that takes its ring, or none.

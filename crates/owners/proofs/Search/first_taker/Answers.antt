@@ -1,8 +1,17 @@
 -- `owners::Search::first_taker` meets its contract. The loop's invariant is `Choosing`: of the numbers so far, looked at or passed over, the best is the first polygon
 -- that takes the ring. Assumes nothing.
+use mathlib.Core.Path.{◌≡◌, refl, ◌∙◌}
+use Prim.Native.Nat.{ℕ}
+use Rattle.std.specs.Prelude.{Option, Some, None}
+use Rattle.std.specs.Option.{unwrap_or}
 use Rattle.scope.specs.Limits.{no_owner}
+use Rattle.owners.specs.Searched.{best_word}
 use Rattle.owners.proofs.Searches.{found-below, choosing-begin, choosing-next, choosing-end}
 use Rattle.owners.proofs.Search.first_taker.Goals as goal
+
+word-of-best : (best : Option ℕ) → unwrap_or best no_owner ≡ best_word best
+word-of-best None = refl
+word-of-best (Some r) = refl
 
 pub loop-i-init : goal.loop-i-init
 unfolding no_owner
@@ -20,4 +29,5 @@ loop-i-preserved c =
     choosing-next c.loop-i.invariant (found.0, found.1, found.2) found.3.0 found.3.2 c.better-best.ensures.1 c.better-best.ensures.0
 
 pub returns : goal.returns
-returns c = choosing-end c.loop-i.invariant c.in-None.ensures.steps.3
+unfolding no_owner
+returns c = c.unwrap_or.ensures ∙ word-of-best c.loop-i.best ∙ choosing-end c.loop-i.invariant c.in-None.ensures.steps.3
