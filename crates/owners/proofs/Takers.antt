@@ -20,7 +20,7 @@ use Rattle.owners.proofs.Ranks.{sum_over}
 
 module _ (points directory : List ℕ) (at r : ℕ) where
   -- a ring is none of the others
-  pub itself : at ≡ r → false ≡ takes_other points directory at r
+  pub itself : at ≡ r → not (eqb at r) ≡ takes_other points directory at r
   unfolding takes_other
   itself e = rw (eq-eqb at r e)
 

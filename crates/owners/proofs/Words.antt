@@ -65,8 +65,9 @@ module _ (offset : ℕ) (word : ℕ → ℕ) (rank : ℕ → ℕ) (n : ℕ) (sta
           let number = number_of rank n permutes r below in
           subst (λ (r' : ℕ). get_or directory (4 * r' + offset) 0 ≡ word r') number.2 (s.word-is number.0 (omega (arith, number.1)))
 
-  pub beside : {directory : List ℕ} {i : ℕ} → StoredTo offset word rank n start directory i → Beside offset start directory
-  beside s = record { as_long = s.as_long; others = λ p other. s.rest-stays p (λ q. absurd (other q)) }
+pub beside : {offset : ℕ} {word rank : ℕ → ℕ} {n : ℕ} {start directory : List ℕ} {i : ℕ} → StoredTo offset word rank n start directory i →
+    Beside offset start directory
+beside s = record { as_long = s.as_long; others = λ p other. s.rest-stays p (λ q. absurd (other q)) }
 
 -- while words behind the rings' are stored the table still goes with the directory
 pub filed-stays : {offset : ℕ} {points start directory table : List ℕ} {n : ℕ} {rings chunks : Ladder} → 2 ≤ offset → Beside offset start directory →
@@ -101,4 +102,4 @@ module _ {offset : ℕ} {word : List ℕ → List ℕ → ℕ → ℕ → ℕ} {
       let found' = rw (same.0, same.1, same.2, same.3) at found in
       rw e
       (stored-next offset (word points start n) (rank_of table n) n start s room.0 room.1 ranked'.is-rank ranked'.below
-      (found' ∙ stays points start directory (beside offset (word points start n) (rank_of table n) n start s) n (rank_of table n i)))
+      (found' ∙ stays points start directory (beside s) n (rank_of table n i)))

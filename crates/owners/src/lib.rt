@@ -91,13 +91,14 @@ impl<'a> Search<'a> {
     {
         let extent = extents::extent_at(self.table, self.filing.rings.items + 2 * number);
         if extent.top < extent.bottom {
-            return extent;
-        }
-        Extent {
-            left: 0,
-            right: 65535,
-            top: 0,
-            bottom: 65535,
+            extent
+        } else {
+            Extent {
+                left: 0,
+                right: 65535,
+                top: 0,
+                bottom: 65535,
+            }
         }
     }
 
@@ -140,10 +141,7 @@ impl<'a> Search<'a> {
         ensures { result ≡ takes_other self.now.points.now self.now.directory.now at (rank_of self.now.table.now self.now.n number) }
     {
         let r = self.rank_at(number) as usize;
-        if at == r {
-            return false;
-        }
-        self.record_takes(r, at)
+        at != r && self.record_takes(r, at)
     }
 
     // Whether an even number of other rings take the ring of a number.
@@ -165,9 +163,10 @@ impl<'a> Search<'a> {
         ensures { result ≡ class_in self.now.points.now self.now.directory.now self.now.n (rank_of self.now.table.now self.now.n number) }
     {
         if self.even_takers(number) {
-            return POLYGON;
+            POLYGON
+        } else {
+            HOLE
         }
-        HOLE
     }
 
     // The ring of a number where it comes before the best so far, is a polygon and takes the ring of record `at`, and otherwise the best so far.
@@ -212,9 +211,10 @@ impl<'a> Search<'a> {
     {
         let rank = self.rank_at(number);
         if self.directory[SHORT_STRIDE * (rank as usize) + 2] == POLYGON {
-            return rank;
+            rank
+        } else {
+            self.first_taker(number)
         }
-        self.first_taker(number)
     }
 }
 

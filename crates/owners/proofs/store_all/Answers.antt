@@ -1,13 +1,12 @@
 -- `owners::store_all` meets its contract. The loop's invariant is `StoredTo`: the records of the numbers so far have their words, and every other word is as it
 -- was. Assumes nothing.
 use native.Mathlib.Omega.{arith}
-use Rattle.owners.proofs.Words.{stored-begin, stored-end, beside, filed-stays, found-next}
+use Rattle.owners.proofs.Words.{stored-end, beside, filed-stays, found-next}
 use Rattle.owners.proofs.store_all.Goals as goal
 
 pub new-search-requires : goal.new-search-requires
 new-search-requires g c =
-    let law = g.met.F.Finding in
-    filed-stays law.behind.0 (beside _ _ _ _ _ c.loop-i.invariant) c.requires
+    filed-stays g.met.F.Finding.behind.0 (beside {word = g.F.Finding.word c.args.points.now c.args.directory.now c.args.n} c.loop-i.invariant) c.requires
 
 pub loop-i-preserved : goal.loop-i-preserved
 loop-i-preserved g c =

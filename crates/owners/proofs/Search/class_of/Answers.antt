@@ -7,6 +7,6 @@ pub returns-then-even_takers : goal.returns-then-even_takers
 unfolding class_in evenly_taken
 returns-then-even_takers c = rw (← c.even_takers.ensures, c.if-even_takers.true)
 
-pub returns : goal.returns
+pub returns-else-even_takers : goal.returns-else-even_takers
 unfolding class_in evenly_taken
-returns c = rw (← c.even_takers.ensures, c.if-even_takers.false)
+returns-else-even_takers c = rw (← c.even_takers.ensures, c.if-even_takers.false)

@@ -7,8 +7,8 @@ pub returns-then-self-rank-eq-POLYGON : goal.returns-then-self-rank-eq-POLYGON
 unfolding record_class
 returns-then-self-rank-eq-POLYGON c = rw (← c.rank_at-rank.ensures.is-rank) (owns-itself _ _ _ _ c.if-self-rank-eq-POLYGON.true)
 
-pub returns : goal.returns
+pub returns-else-self-rank-eq-POLYGON : goal.returns-else-self-rank-eq-POLYGON
 unfolding record_class
-returns c =
+returns-else-self-rank-eq-POLYGON c =
     let ranked = c.rank_at-rank.ensures in
     owned_by _ _ _ _ (rw ranked.is-rank at c.if-self-rank-eq-POLYGON.false) c.first_taker.ensures

@@ -1,6 +1,5 @@
 -- `owners::Search::rank_at` meets its contract: ranks that permute are below their number, and a rank is a word. Assumes nothing.
 use mathlib.Core.Path.{refl}
-use Prim.Native.Nat.{◌+◌, ◌*◌}
 use native.Mathlib.Omega.{arith}
 use Rattle.scope.specs.Limits.{no_owner}
 use Rattle.extents.specs.Records.{rank_of}

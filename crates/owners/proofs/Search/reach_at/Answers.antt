@@ -21,6 +21,6 @@ pub returns-then-extent : goal.returns-then-extent
 unfolding item_extent
 returns-then-extent c = rows _ _ c.extent_at-extent.ensures c.if-extent.true
 
-pub returns : goal.returns
+pub returns-else-extent : goal.returns-else-extent
 unfolding item_extent
-returns c = one-row _ _ c.extent_at-extent.ensures c.if-extent.false
+returns-else-extent c = one-row _ _ c.extent_at-extent.ensures c.if-extent.false
