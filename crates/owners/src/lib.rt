@@ -60,7 +60,13 @@ impl Iterator for Near<'_> {
 
 impl<'a> Search<'a> {
     // The search by a table that goes with the records.
-    fn new(points: &'a [u16], directory: &'a [u32], table: &'a [u32], n: usize, filing: Filing) -> Self
+    fn new(
+        points: &'a [u16],
+        directory: &'a [u32],
+        table: &'a [u32],
+        n: usize,
+        filing: Filing,
+    ) -> Self
         requires { Filed points.now directory.now table.now n filing.rings filing.chunks }
         ensures points { result.points.now ≡ points.now }
         ensures directory { result.directory.now ≡ directory.now }
@@ -272,7 +278,13 @@ impl Finding for Owner {
 }
 
 // Stores what is found of each of the first `n` records.
-fn store_all<F: Finding>(points: &[u16], directory: &mut [u32], table: &[u32], n: usize, filing: Filing)
+fn store_all<F: Finding>(
+    points: &[u16],
+    directory: &mut [u32],
+    table: &[u32],
+    n: usize,
+    filing: Filing,
+)
     requires { Filed points.now directory.old table.now n filing.rings filing.chunks }
     ensures { Stored F.OFFSET (F.word points.now directory.old n) n directory.old directory.new }
 {

@@ -1,6 +1,5 @@
 -- `filing::rank_rings` meets its contract. The loop's invariant is `RankedTo`: the records so far stand at their numbers.
 -- Assumes nothing.
-use native.Mathlib.Omega.{arith}
 use Rattle.extents.specs.Records.{record_number}
 use Rattle.filing.proofs.Ranks.{ranked-begin, ranked-room, ranked-next, ranked-end}
 use Rattle.filing.proofs.rank_rings.Goals as goal

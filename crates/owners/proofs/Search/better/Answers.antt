@@ -29,8 +29,8 @@ returns-then-record_takes c =
     let ranked = c.rank_at-rank.ensures in
     let sooner : c.rank_at-rank.result ≤ best_word c.args.best =
     elim c.in_default.branch [
-      in_default-via-in-None-1 w ↦ let none : c.args.best ≡ None = cc in rw none (omega (arith, ranked.fits))
-    | in_default-via-in-Some+else-first-rank w ↦ rw w.in-Some.is (omega arith)
+      | in_default-via-in-None-1 w ↦ let none : c.args.best ≡ None = cc in rw none (omega (arith, ranked.fits))
+      | in_default-via-in-Some+else-first-rank w ↦ rw w.in-Some.is (omega arith)
     ] in
     rw (← ranked.is-rank) (taken _ _ _ _ _ c.if-self-r-ne-POLYGON.false c.record_takes.ensures sooner c.if-record_takes.true, ranked)
 
