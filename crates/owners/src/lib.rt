@@ -164,6 +164,7 @@ impl<'a> Search<'a> {
     }
 
     // The class of the ring of a number: 0 for a polygon, whose ring an even number of other rings take, and 1 for an interior.
+    #[tactic(auto, unfolding(crate::specs::Owned::class_in, crate::specs::Searched::evenly_taken))]
     fn class_of(&self, number: usize) -> u32
         requires { number < self.now.n }
         ensures { result ≡ class_in self.now.points.now self.now.directory.now self.now.n (rank_of self.now.table.now self.now.n number) }
