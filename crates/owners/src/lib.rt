@@ -142,6 +142,7 @@ impl<'a> Search<'a> {
     }
 
     // Whether the ring of a number is another than that of record `at`, and takes it.
+    #[tactic(auto, unfolding(crate::specs::Searched::takes_other))]
     fn other_takes(&self, number: usize, at: usize) -> bool
         requires { (number < self.now.n) × (at < self.now.n) }
         ensures { result ≡ takes_other self.now.points.now self.now.directory.now at (rank_of self.now.table.now self.now.n number) }
@@ -212,6 +213,7 @@ impl<'a> Search<'a> {
     }
 
     // The owner of the ring of a number: a polygon owns itself, and any other has the first polygon that takes its ring, or none.
+    #[tactic(auto, unfolding(crate::specs::Owned::owner_in, crate::specs::Searched::first_taker, extents::specs::Records::record_class))]
     fn owner_of(&self, number: usize) -> u32
         requires { number < self.now.n }
         ensures { result ≡ owner_in self.now.points.now self.now.directory.now self.now.n (rank_of self.now.table.now self.now.n number) }
