@@ -8,12 +8,11 @@ use Prim.Native.Nat.{ℕ, zero, suc, ◌+◌, ◌≤◌, ◌<◌}
 use native.Mathlib.Omega.{arith}
 use native.Mathlib.Decide.{ℕ_discrete, dec_lt}
 use lib.Dec.{ltb}
-use borrow.Author.Tests.{lt-ltb, le-ltb, eq-eqb, ne_eqb, ltb-true, ltb-false}
+use borrow.Author.Tests.{ltb-true, ltb-false}
 use Rattle.scope.specs.Limits.{no_owner}
-use Rattle.scope.specs.Contour.{Fate, hole, takes, owner_from, owner_word}
-use Rattle.extents.specs.Records.{record_ring, record_rings, record_class, record_classes, Permutes}
-use Rattle.owners.specs.Owned.{owner_in}
-use Rattle.owners.specs.Searched.{may_own, bettered, first_taker}
+use Rattle.scope.specs.Contour.{Fate, hole, owner_from, owner_word}
+use Rattle.extents.specs.Records.{record_ring, record_rings, record_classes, Permutes}
+use Rattle.owners.specs.Searched.{may_own, first_taker}
 use Rattle.owners.proofs.Ranks.{number_of}
 
 -- of n records from k on none below best passes the test, and best is one that passes or the word of no owner
@@ -42,56 +41,6 @@ least_first {test} {k} {n} {best} l e = by l.stands
     by : (best ≡ no_owner) ⊎ ((k ≤ best) × (best < k + suc n) × (test best ≡ true)) → k ≡ best
     by (inl none) = omega (arith, beaten)
     by (inr one) = omega (arith, beaten, one.0)
-
--- one look: a record stands for the best so far where it comes before it and may own the ring
-module _ (points directory : List ℕ) (at r best : ℕ) where
-  pub comes-later : best ≤ r → best ≡ bettered points directory at best r
-  unfolding bettered
-  comes-later h = rw (le-ltb r best h)
-
-  and-false : (b : Bool) → best ≡ cond (b && false) r best
-  and-false true = refl
-  and-false false = refl
-
-  pub no-polygon : (record_class directory r ≡ 0 → ⊥) → best ≡ bettered points directory at best r
-  unfolding bettered may_own
-  no-polygon ne = rw (ne_eqb (record_class directory r) 0 ne) (and-false (ltb r best))
-
-  module _ {b : Bool} (polygon : record_class directory r ≡ 0) (asked : b ≡ takes (record_ring points directory r) (record_ring points directory at)) where
-    pub not_taken : b ≡ false → best ≡ bettered points directory at best r
-    unfolding bettered may_own
-    not_taken e = rw (eq-eqb (record_class directory r) 0 polygon, ← asked, e) (and-false (ltb r best))
-
-    before : r < best → b ≡ true → r ≡ bettered points directory at best r
-    unfolding bettered may_own
-    before h e = rw (eq-eqb (record_class directory r) 0 polygon, ← asked, e, lt-ltb r best h)
-
-    either : (t : Bool) → r ≡ cond t r r
-    either true = refl
-    either false = refl
-
-    here : r ≡ best → r ≡ bettered points directory at best r
-    unfolding bettered
-    here q = rw (← q) (either (ltb r r && may_own points directory at r))
-
-    pub taken : r ≤ best → b ≡ true → r ≡ bettered points directory at best r
-    taken h e = by (ℕ_discrete r best)
-      where
-        by : Dec (r ≡ best) → r ≡ bettered points directory at best r
-        by (yes q) = here q
-        by (no ne) = before (omega arith) e
-
--- a polygon owns itself, and any other ring is owned by the first that may own it
-module _ (points directory : List ℕ) (n r : ℕ) where
-  pub owns-itself : record_class directory r ≡ 0 → r ≡ owner_in points directory n r
-  unfolding owner_in
-  owns-itself e = rw (eq-eqb (record_class directory r) 0 e)
-
-  pub owned_by : {owner : ℕ} → (record_class directory r ≡ 0 → ⊥) →
-      owner ≡ first_taker points directory n r →
-      owner ≡ owner_in points directory n r
-  unfolding owner_in first_taker
-  owned_by ne e = rw (ne_eqb (record_class directory r) 0 ne) e
 
 module _ (points directory : List ℕ) (at : ℕ) where
   owner-least : (k n best : ℕ) → LeastOf (may_own points directory at) k n best →

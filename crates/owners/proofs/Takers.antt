@@ -18,17 +18,6 @@ use Rattle.extents.specs.Records.{record_ring, record_rings, Permutes}
 use Rattle.owners.specs.Searched.{takes_other, evenly_taken}
 use Rattle.owners.proofs.Ranks.{sum_over}
 
-module _ (points directory : List ℕ) (at r : ℕ) where
-  -- a ring is none of the others
-  pub itself : at ≡ r → not (eqb at r) ≡ takes_other points directory at r
-  unfolding takes_other
-  itself e = rw (eq-eqb at r e)
-
-  -- any other ring
-  pub another : {b : Bool} → (at ≡ r → ⊥) → b ≡ takes (record_ring points directory r) (record_ring points directory at) → b ≡ takes_other points directory at r
-  unfolding takes_other
-  another ne e = rw (ne_eqb at r ne) e
-
 module _ (points directory : List ℕ) (at : ℕ) where
   counts-one : (other taken : Bool) → cond other 0 (when 1 taken) ≡ when 1 (not other && taken)
   counts-one true taken = refl

@@ -91,6 +91,7 @@ impl<'a> Search<'a> {
     }
 
     // Where a ring has to reach into to take the ring of a number.
+    #[tactic(auto, unfolding(extents::specs::Extents::reach, extents::specs::Extents::everything, extents::specs::Ladders::item_extent))]
     fn reach_at(&self, number: usize) -> Extent
         requires { number < self.now.n }
         ensures { result ≡ reach (item_extent self.now.table.now self.now.filing.rings number) }
@@ -122,6 +123,7 @@ impl<'a> Search<'a> {
     }
 
     // Whether the ring of record `r` takes the ring of record `at`.
+    #[tactic(auto, unfolding(extents::specs::Records::record_ring, extents::specs::Records::record_first, extents::specs::Records::record_count))]
     fn record_takes(&self, r: usize, at: usize) -> bool
         requires { (r < self.now.n) × (at < self.now.n) }
         ensures { result ≡ takes (record_ring self.now.points.now self.now.directory.now r) (record_ring self.now.points.now self.now.directory.now at) }
@@ -178,6 +180,7 @@ impl<'a> Search<'a> {
     }
 
     // The ring of a number where it comes before the best so far, is a polygon and takes the ring of record `at`, and otherwise the best so far.
+    #[tactic(auto, unfolding(crate::specs::Searched::bettered, crate::specs::Searched::may_own, extents::specs::Records::record_class, scope::specs::Limits::no_owner))]
     fn better(&self, number: usize, at: usize, best: Option<u32>) -> Option<u32>
         requires { (number < self.now.n) × (at < self.now.n) }
         ensures { (best_word result ≡ bettered self.now.points.now self.now.directory.now at (best_word best) (rank_of self.now.table.now self.now.n number)) × RankIs self.now.table.now self.now.n number (rank_of self.now.table.now self.now.n number) }
