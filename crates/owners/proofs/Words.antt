@@ -25,9 +25,9 @@ module _ (offset : ℕ) (word : ℕ → ℕ) (rank : ℕ → ℕ) (n : ℕ) (sta
   pub stored-begin : StoredTo offset word rank n start start 0
   stored-begin = record { as_long = refl; word-is = λ k below. absurd (omega arith); rest-stays = λ p other. refl }
 
-  pub stored-next : {directory : List ℕ} {i at value : ℕ} → StoredTo offset word rank n start directory i → offset < 4 → 4 * n ≤ length start →
+  pub stored_next : {directory : List ℕ} {i at value : ℕ} → StoredTo offset word rank n start directory i → offset < 4 → 4 * n ≤ length start →
       at ≡ rank i → at < n → value ≡ word (rank i) → StoredTo offset word rank n start (set directory (4 * at + offset) value) (i + 1)
-  stored-next {directory} {i} {at} {value} s low room ranked below f =
+  stored_next {directory} {i} {at} {value} s low room ranked below f =
       record { as_long = length-set directory place value ∙ s.as_long; word-is = found; rest-stays = rest }
     where
       place : ℕ
@@ -101,5 +101,5 @@ module _ {offset : ℕ} {word : List ℕ → List ℕ → ℕ → ℕ → ℕ} {
       let ranked' = rw (same.2, same.3) at ranked in
       let found' = rw (same.0, same.1, same.2, same.3) at found in
       rw e
-      (stored-next offset (word points start n) (rank_of table n) n start s room.0 room.1 ranked'.is-rank ranked'.below
+      (stored_next offset (word points start n) (rank_of table n) n start s room.0 room.1 ranked'.is-rank ranked'.below
       (found' ∙ stays points start directory (beside s) n (rank_of table n i)))
