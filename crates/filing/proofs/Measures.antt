@@ -65,8 +65,8 @@ module _ {points directory start : List ℕ} {n : ℕ} {table : List ℕ} {i : �
 
 -- the record of a number, and that its ring's points are there
 module _ {points directory table : List ℕ} {n i : ℕ} (m : Measurable points directory table n × (i < n)) where
-  pub record-there : 4 * rank_of table n i + 4 ≤ length directory
-  record-there = omega (arith, m.0.ranks-below i m.1, m.0.rings-there.records-there)
+  pub record_there : 4 * rank_of table n i + 4 ≤ length directory
+  record_there = omega (arith, m.0.ranks-below i m.1, m.0.rings-there.records-there)
 
   pub ring-there : 2 * (record_first directory (rank_of table n i) + record_count directory (rank_of table n i)) ≤ length points
   ring-there = (m.0.rings-there.ring-there (rank_of table n i) (m.0.ranks-below i m.1)).within

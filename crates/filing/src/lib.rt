@@ -21,15 +21,14 @@ fn rank_rings(directory: &[u32], n: usize, table: &mut [u32])
     ensures { Ranked directory.now table.old table.new n }
 {
     let ranks = 2 * n;
-    let mut r: usize = 0;
-    while r < n {
+    for r in 0..n {
         let number = directory[SHORT_STRIDE * r + 3] as usize;
         table[ranks + number] = r as u32;
-        r += 1;
     }
 }
 
 // Stores the extent of the ring of number `i`, whose record stands among the ranks.
+#[tactic(auto, using(crate::proofs::Measures::record_there), unfolding(extents::specs::Records::rank_of))]
 fn measure_ring(points: &[u16], directory: &[u32], n: usize, i: usize, table: &mut [u32])
     requires { Measurable points.now directory.now table.old n × (i < n) }
     ensures { MeasuredOne points.now directory.now table.old table.new n i }
@@ -46,25 +45,20 @@ fn measure_rings(points: &[u16], directory: &[u32], n: usize, table: &mut [u32])
     requires { Measurable points.now directory.now table.old n }
     ensures { Measured points.now directory.now table.old table.new n }
 {
-    let mut i: usize = 0;
-    while i < n {
+    for i in 0..n {
         measure_ring(points, directory, n, i, table);
-        i += 1;
     }
 }
 
 // The first word behind the groups and the blocks of a ladder.
+#[tactic(auto, unfolding(crate::specs::Steps::ladder_end))]
 fn ladder_end(ladder: Ladder) -> usize
     requires { ladder_end ladder < 2 ^ 64 }
     ensures { result ≡ ladder_end ladder }
 {
     let groups_end = ladder.groups + 2 * ladder.group_count;
     let blocks_end = ladder.blocks + 2 * ladder.block_count;
-    if groups_end < blocks_end {
-        blocks_end
-    } else {
-        groups_end
-    }
+    groups_end.max(blocks_end)
 }
 
 // Fills the table for the first `n` records of a directory. Whatever room is left behind extents and ranks goes to the ladders.

@@ -8,12 +8,11 @@ use Prim.Native.Nat.{ℕ, zero, suc, ◌+◌, ◌≤◌, ◌<◌}
 use native.Mathlib.Omega.{arith}
 use native.Mathlib.Decide.{ℕ_discrete, dec_lt}
 use lib.Dec.{ltb}
-use borrow.Author.Tests.{lt-ltb, le-ltb, eq-eqb, ne_eqb, ltb-true, ltb-false}
+use borrow.Author.Tests.{ltb-true, ltb-false}
 use Rattle.scope.specs.Limits.{no_owner}
-use Rattle.scope.specs.Contour.{Fate, hole, takes, owner_from, owner_word}
-use Rattle.extents.specs.Records.{record_ring, record_rings, record_class, record_classes, Permutes}
-use Rattle.owners.specs.Owned.{owner_in}
-use Rattle.owners.specs.Searched.{may_own, bettered, first_taker}
+use Rattle.scope.specs.Contour.{Fate, hole, owner_from, owner_word}
+use Rattle.extents.specs.Records.{record_ring, record_rings, record_classes, Permutes}
+use Rattle.owners.specs.Searched.{may_own, first_taker}
 use Rattle.owners.proofs.Ranks.{number_of}
 
 -- of n records from k on none below best passes the test, and best is one that passes or the word of no owner
@@ -42,41 +41,6 @@ least_first {test} {k} {n} {best} l e = by l.stands
     by : (best ≡ no_owner) ⊎ ((k ≤ best) × (best < k + suc n) × (test best ≡ true)) → k ≡ best
     by (inl none) = omega (arith, beaten)
     by (inr one) = omega (arith, beaten, one.0)
-
--- one look: a record stands for the best so far where it comes before it and may own the ring
-module _ (points directory : List ℕ) (at r best : ℕ) where
-  pub comes-later : best ≤ r → best ≡ bettered points directory at best r
-  unfolding bettered
-  comes-later h = rw (le-ltb r best h)
-
-  and-false : (b : Bool) → best ≡ cond (b && false) r best
-  and-false true = refl
-  and-false false = refl
-
-  pub no-polygon : (record_class directory r ≡ 0 → ⊥) → best ≡ bettered points directory at best r
-  unfolding bettered may_own
-  no-polygon ne = rw (ne_eqb (record_class directory r) 0 ne) (and-false (ltb r best))
-
-  module _ {b : Bool} (polygon : record_class directory r ≡ 0) (asked : b ≡ takes (record_ring points directory r) (record_ring points directory at)) where
-    pub not_taken : b ≡ false → best ≡ bettered points directory at best r
-    unfolding bettered may_own
-    not_taken e = rw (eq-eqb (record_class directory r) 0 polygon, ← asked, e) (and-false (ltb r best))
-
-    pub taken : r < best → b ≡ true → r ≡ bettered points directory at best r
-    unfolding bettered may_own
-    taken h e = rw (eq-eqb (record_class directory r) 0 polygon, ← asked, e, lt-ltb r best h)
-
--- a polygon owns itself, and any other ring is owned by the first that may own it
-module _ (points directory : List ℕ) (n r : ℕ) where
-  pub owns-itself : record_class directory r ≡ 0 → r ≡ owner_in points directory n r
-  unfolding owner_in
-  owns-itself e = rw (eq-eqb (record_class directory r) 0 e)
-
-  pub owned_by : {owner : ℕ} → (record_class directory r ≡ 0 → ⊥) →
-      owner ≡ first_taker points directory n r →
-      owner ≡ owner_in points directory n r
-  unfolding owner_in first_taker
-  owned_by ne e = rw (ne_eqb (record_class directory r) 0 ne) e
 
 module _ (points directory : List ℕ) (at : ℕ) where
   owner-least : (k n best : ℕ) → LeastOf (may_own points directory at) k n best →
@@ -111,7 +75,7 @@ module _ (test : ℕ → Bool) (rank : ℕ → ℕ) (n : ℕ) where
       by (no ne) = let beaten = before k (omega arith) passes in (omega (arith, beaten.0), beaten.1)
 
   -- numbers that do not pass are passed over
-  least-over : (i j best : ℕ) → LeastTo test rank n i best → ((k : ℕ) → i ≤ k → k < j → test (rank k) ≡ false) → LeastTo test rank n j best
+  pub least-over : (i j best : ℕ) → LeastTo test rank n i best → ((k : ℕ) → i ≤ k → k < j → test (rank k) ≡ false) → LeastTo test rank n j best
   least-over i j best l none = record { beats = beaten; stands = l.stands }
     where
       by : (k : ℕ) → k < j → test (rank k) ≡ true → Dec (k < i) → (best ≤ rank k) × (rank k ≤ no_owner)
@@ -121,13 +85,11 @@ module _ (test : ℕ → Bool) (rank : ℕ → ℕ) (n : ℕ) where
       beaten : (k : ℕ) → k < j → test (rank k) ≡ true → (best ≤ rank k) × (rank k ≤ no_owner)
       beaten k below passes = by k below passes (dec_lt k i)
 
-  -- the numbers before the first that is looked at do not pass
-  pub least-begin : (i : ℕ) → ((k : ℕ) → 0 ≤ k → k < i → test (rank k) ≡ false) → LeastTo test rank n i no_owner
-  least-begin i none =
-      least-over 0 i no_owner (record { beats = λ k below passes. absurd (omega arith); stands = inl refl }) none
+  pub least-begin : LeastTo test rank n 0 no_owner
+  least-begin = record { beats = λ k below passes. absurd (omega arith); stands = inl refl }
 
   -- a number is looked at
-  least-seen : (i best best' : ℕ) → LeastTo test rank n i best → rank i < n → rank i ≤ no_owner →
+  pub least-seen : (i best best' : ℕ) → LeastTo test rank n i best → rank i < n → rank i ≤ no_owner →
       best' ≡ cond (ltb (rank i) best && test (rank i)) (rank i) best → LeastTo test rank n (i + 1) best'
   least-seen i best best' l below fits e = by (ltb (rank i) best) (test (rank i)) refl refl e
     where
@@ -148,12 +110,6 @@ module _ (test : ℕ → Bool) (rank : ℕ → ℕ) (n : ℕ) where
             beats = one-beaten best best' i l.beats (omega arith) (λ passes. (omega (arith, ltb-false (rank i) best f), fits));
             stands = rw q l.stands;
           }
-
-  -- a number is looked at, and those before the next that is looked at do not pass
-  pub least-next : {i best : ℕ} (best' j : ℕ) → LeastTo test rank n i best → rank i < n → rank i ≤ no_owner →
-      best' ≡ cond (ltb (rank i) best && test (rank i)) (rank i) best → ((k : ℕ) → i + 1 ≤ k → k < j → test (rank k) ≡ false) →
-      LeastTo test rank n j best'
-  least-next {i} {best} best' j l below fits e none = least-over (i + 1) j best' (least-seen i best best' l below fits e) none
 
 -- all rings are looked at
 pub least-end : (points directory : List ℕ) (at : ℕ) (rank : ℕ → ℕ) (n : ℕ) → Permutes rank n → (i best : ℕ) →

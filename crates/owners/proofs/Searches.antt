@@ -1,107 +1,140 @@
--- The two searches as loops over the numbers of the rings. Each begins at the first number near enough, looks at it and goes on to the next, and ends when
--- every number is looked at or passed over. Assumes nothing.
-use mathlib.Core.Path.{◌≡◌, ◌∙◌}
+-- The two searches as loops over the numbers of the rings that are near enough: each looks at the next of them, those before it are passed over, and where
+-- there is none every number is looked at or passed over. Assumes nothing.
+use mathlib.Core.Path.{◌≡◌, ap, ◌∙◌}
 use mathlib.Core.Bool.{Bool, true, xor}
-use mathlib.Core.List.{List}
-use Prim.Native.Nat.{ℕ, ◌+◌, ◌≤◌, ◌<◌}
+use Prim.Native.Nat.{ℕ, ◌+◌, ◌<◌}
 use native.Mathlib.Omega.{arith}
 use Rattle.scope.specs.Limits.{no_owner}
-use Rattle.extents.specs.declared.Extent.{Extent}
 use Rattle.extents.specs.declared.Ladder.{Ladder}
 use Rattle.extents.specs.Extents.{extent_of, reach}
-use Rattle.extents.specs.Ladders.{item_extent, NextNear}
-use Rattle.extents.specs.Records.{record_ring, rank_of, Filed}
-use Rattle.owners.specs.Searched.{takes_other, evenly_taken, may_own, bettered, first_taker, RankIs, Ranked}
-use Rattle.owners.proofs.Takers.{EvenTo, even-begin, even-next, even-end}
-use Rattle.owners.proofs.Least.{LeastTo, least-begin, least-next, least-end}
+use Rattle.extents.specs.Ladders.{NextNear}
+use Rattle.extents.specs.Records.{record_ring, rank_of}
+use Rattle.owners.specs.declared.Near.{Near}
+use Rattle.owners.specs.declared.Search.{Search}
+use Rattle.owners.specs.Searched.{takes_other, evenly_taken, may_own, bettered, first_taker, RankIs, Ranked, NearRing}
+use Rattle.owners.proofs.Takers.{EvenTo, even-begin, even-over, even-seen, even-end}
+use Rattle.owners.proofs.Least.{LeastTo, least-begin, least-over, least-seen, least-end}
 use Rattle.owners.proofs.Apart.{passed-is-no-taker, passed-is-no-owner}
 
-pub ranked-of : {points directory table : List ℕ} {n : ℕ} {rings chunks : Ladder} → Filed points directory table n rings chunks →
-    Ranked points directory table n chunks
-ranked-of f =
+-- what a look at two rings goes by is part of what is filed
+pub ranked-of : (s : Search) → Ranked s.points.now s.directory.now s.table.now s.n s.filing.chunks
+ranked-of s =
     record {
-      rings-there = f.rings-there;
-      ranks-there = f.ranks-there;
-      ranks-permute = f.ranks-permute;
-      points-chunked = f.points-chunked;
+      rings-there = s.filed.rings-there;
+      ranks-there = s.filed.ranks-there;
+      ranks-permute = s.filed.ranks-permute;
+      points-chunked = s.filed.points-chunked;
     }
 
 -- the ring of a number, for which the search is: its record, and where other rings have to reach into
-pub record Sought (points directory table : List ℕ) (n : ℕ) (rings chunks : Ladder) (number at : ℕ) (query : Extent) : Type 0 where
-  pub filed : Filed points directory table n rings chunks
-  pub ranked : RankIs table n number at
-  pub reached : query ≡ reach (extent_of (record_ring points directory at))
+pub record Sought (s : Search) (number at : ℕ) (it : Near) : Type 0 where
+  pub ranked : RankIs s.table.now s.n number at
+  pub same-table : it.table.now ≡ s.table.now
+  pub same-rings : it.rings ≡ s.filing.rings
+  pub reached : it.query ≡ reach (extent_of (record_ring s.points.now s.directory.now at))
 
-pub sought : {points directory table : List ℕ} {n : ℕ} {rings chunks : Ladder} {number at : ℕ} {query : Extent} →
-    Filed points directory table n rings chunks → number < n → RankIs table n number at → query ≡ reach (item_extent table rings number) →
-    Sought points directory table n rings chunks number at query
-sought {number = number} f below ranked e =
-    record { filed = f; ranked = ranked; reached = e ∙ rw (f.extents-filed number below, ranked.is-rank) }
+-- of the numbers before the next, whether an even number take the ring
+pub record Counting (s : Search) (number at : ℕ) (even : Bool) (it : Near) : Type 0 where
+  pub for-ring : Sought s number at it
+  pub evened : EvenTo (λ k. takes_other s.points.now s.directory.now at (rank_of s.table.now s.n k)) it.next even
 
--- of the numbers below i, whether an even number take the ring
-pub record Counting (points directory table : List ℕ) (n : ℕ) (rings chunks : Ladder) (number at : ℕ) (query : Extent) (even : Bool) (i : ℕ) : Type 0 where
-  pub for-ring : Sought points directory table n rings chunks number at query
-  pub within : i ≤ n
-  pub evened : EvenTo (λ k. takes_other points directory at (rank_of table n k)) i even
+-- of the numbers before the next, the first polygon that takes the ring
+pub record Choosing (s : Search) (number at best : ℕ) (it : Near) : Type 0 where
+  pub for-ring : Sought s number at it
+  pub least : LeastTo (may_own s.points.now s.directory.now at) (rank_of s.table.now s.n) s.n it.next best
 
--- of the numbers below i, the first polygon that takes the ring
-pub record Choosing (points directory table : List ℕ) (n : ℕ) (rings chunks : Ladder) (number at : ℕ) (query : Extent) (best i : ℕ) : Type 0 where
-  pub for-ring : Sought points directory table n rings chunks number at query
-  pub within : i ≤ n
-  pub least : LeastTo (may_own points directory at) (rank_of table n) n i best
-
-module _ {points directory table : List ℕ} {n : ℕ} {rings chunks : Ladder} {number at : ℕ} {query : Extent} where
-  module _ (s : Sought points directory table n rings chunks number at query) where
-    pub counting-begin : {i : ℕ} → NextNear table rings 0 query i → Counting points directory table n rings chunks number at query true i
-    counting-begin {i} near =
+module _ {s : Search} {number at : ℕ} where
+  module _ {it : Near} (below : number < s.n) (ranked : RankIs s.table.now s.n number at)
+      (begun : NearRing s.table.now s.filing.rings number it.table.now it.rings it.query it.next) where
+    sought : Sought s number at it
+    sought =
         record {
-          for-ring = s;
-          within = omega (arith, near.not-past, s.filed.rings-counted);
-          evened = even-begin (λ k. takes_other points directory at (rank_of table n k)) i (passed-is-no-taker s.filed at near s.reached);
+          ranked = ranked;
+          same-table = begun.same-table;
+          same-rings = begun.same-rings;
+          reached = begun.reached ∙ rw (s.filed.extents-filed number below, ranked.is-rank);
         }
 
-    pub choosing-begin : {i : ℕ} → NextNear table rings 0 query i → Choosing points directory table n rings chunks number at query no_owner i
-    choosing-begin {i} near =
-        record {
-          for-ring = s;
-          within = omega (arith, near.not-past, s.filed.rings-counted);
-          least = least-begin (may_own points directory at) (rank_of table n) n i (passed-is-no-owner s.filed at near s.reached);
-        }
+    pub counting-begin : Counting s number at true it
+    counting-begin =
+        record { for-ring = sought; evened = rw begun.begins (even-begin (λ k. takes_other s.points.now s.directory.now at (rank_of s.table.now s.n k))) }
 
-  pub counting-next : {even here : Bool} {i j : ℕ} → Counting points directory table n rings chunks number at query even i →
-      here ≡ takes_other points directory at (rank_of table n i) → NextNear table rings (i + 1) query j →
-      Counting points directory table n rings chunks number at query (xor even here) j
-  counting-next {even} {here} {i} {j} s e near =
+    pub choosing-begin : Choosing s number at no_owner it
+    choosing-begin =
+        record { for-ring = sought; least = rw begun.begins (least-begin (may_own s.points.now s.directory.now at) (rank_of s.table.now s.n) s.n) }
+
+  module _ {it : Near} (q : Sought s number at it) where
+    -- what is passed over
+    near_here : {i : ℕ} → NextNear it.table.now it.rings it.next it.query i → NextNear s.table.now s.filing.rings it.next it.query i
+    near_here near = rw (q.same-table, q.same-rings) at near
+
+    pub found-below : {i : ℕ} → i < it.rings.item_count → i < s.n
+    found-below h = omega (arith, ap (λ (l : Ladder). l.item_count) q.same-rings, s.filed.rings-counted)
+
+    all-passed : it.rings.item_count ≡ s.n
+    all-passed = ap (λ (l : Ladder). l.item_count) q.same-rings ∙ s.filed.rings-counted
+
+    module _ {it' : Near} (same : (it'.table.now ≡ it.table.now) × (it'.rings ≡ it.rings) × (it'.query ≡ it.query)) where
+      sought-next : Sought s number at it'
+      sought-next =
+          record {
+            ranked = q.ranked;
+            same-table = same.0 ∙ q.same-table;
+            same-rings = same.1 ∙ q.same-rings;
+            reached = same.2 ∙ q.reached;
+          }
+
+  pub counting-next : {even here : Bool} {i : ℕ} {it it' : Near} → Counting s number at even it →
+      (it'.table.now ≡ it.table.now) × (it'.rings ≡ it.rings) × (it'.query ≡ it.query) →
+      NextNear it.table.now it.rings it.next it.query i → it'.next ≡ i + 1 →
+      here ≡ takes_other s.points.now s.directory.now at (rank_of s.table.now s.n i) →
+      Counting s number at (xor even here) it'
+  counting-next {even} {here} {i} {it} {it'} c same near next e =
+      let q = c.for-ring in
       record {
-        for-ring = s.for-ring;
-        within = omega (arith, near.not-past, s.for-ring.filed.rings-counted);
+        for-ring = sought-next q same;
         evened =
-            rw e
-            (even-next (λ k. takes_other points directory at (rank_of table n k)) j s.evened near.not-before
-            (passed-is-no-taker s.for-ring.filed at near s.for-ring.reached));
+            rw (e, next)
+            (even-seen (λ k. takes_other s.points.now s.directory.now at (rank_of s.table.now s.n k))
+            (even-over (λ k. takes_other s.points.now s.directory.now at (rank_of s.table.now s.n k)) i c.evened near.not-before
+            (passed-is-no-taker s.filed at (near_here q near) q.reached)));
       }
 
-  pub counting-end : {even : Bool} {i : ℕ} → Counting points directory table n rings chunks number at query even i → n ≤ i →
-      even ≡ evenly_taken points directory n (rank_of table n number)
-  counting-end {even} {i} s all =
-      rw (← s.for-ring.ranked.is-rank)
-      (even-end points directory at (rank_of table n) n s.for-ring.filed.ranks-permute i even s.evened (omega (arith, s.within)))
+  pub counting-end : {even : Bool} {it : Near} → Counting s number at even it → NextNear it.table.now it.rings it.next it.query it.rings.item_count →
+      even ≡ evenly_taken s.points.now s.directory.now s.n (rank_of s.table.now s.n number)
+  counting-end {even} {it} c near =
+      let q = c.for-ring in
+      rw (← q.ranked.is-rank)
+      (even-end s.points.now s.directory.now at (rank_of s.table.now s.n) s.n s.filed.ranks-permute it.rings.item_count even
+      (even-over (λ k. takes_other s.points.now s.directory.now at (rank_of s.table.now s.n k)) it.rings.item_count c.evened near.not-before
+      (passed-is-no-taker s.filed at (near_here q near) q.reached))
+      (all-passed q))
 
-  pub choosing-next : {best best' i j : ℕ} → Choosing points directory table n rings chunks number at query best i → RankIs table n i (rank_of table n i) →
-      best' ≡ bettered points directory at best (rank_of table n i) →
-      NextNear table rings (i + 1) query j → Choosing points directory table n rings chunks number at query best' j
+  pub choosing-next : {best best' i : ℕ} {it it' : Near} → Choosing s number at best it →
+      (it'.table.now ≡ it.table.now) × (it'.rings ≡ it.rings) × (it'.query ≡ it.query) →
+      NextNear it.table.now it.rings it.next it.query i → it'.next ≡ i + 1 →
+      RankIs s.table.now s.n i (rank_of s.table.now s.n i) → best' ≡ bettered s.points.now s.directory.now at best (rank_of s.table.now s.n i) →
+      Choosing s number at best' it'
   unfolding bettered
-  choosing-next {best} {best'} {i} {j} s ranked e near =
+  choosing-next {best} {best'} {i} {it} {it'} c same near next ranked e =
+      let q = c.for-ring in
+      let test = may_own s.points.now s.directory.now at in
+      let rank = rank_of s.table.now s.n in
       record {
-        for-ring = s.for-ring;
-        within = omega (arith, near.not-past, s.for-ring.filed.rings-counted);
+        for-ring = sought-next q same;
         least =
-            least-next (may_own points directory at) (rank_of table n) n best' j s.least ranked.below ranked.fits e
-            (passed-is-no-owner s.for-ring.filed at near s.for-ring.reached);
+            rw next
+            (least-seen test rank s.n i best best'
+            (least-over test rank s.n it.next i best c.least (passed-is-no-owner s.filed at (near_here q near) q.reached))
+            ranked.below ranked.fits e);
       }
 
-  pub choosing-end : {best i : ℕ} → Choosing points directory table n rings chunks number at query best i → n ≤ i →
-      best ≡ first_taker points directory n (rank_of table n number)
-  choosing-end {best} {i} s all =
-      rw (← s.for-ring.ranked.is-rank)
-      (least-end points directory at (rank_of table n) n s.for-ring.filed.ranks-permute i best s.least (omega (arith, s.within)))
+  pub choosing-end : {best : ℕ} {it : Near} → Choosing s number at best it → NextNear it.table.now it.rings it.next it.query it.rings.item_count →
+      best ≡ first_taker s.points.now s.directory.now s.n (rank_of s.table.now s.n number)
+  choosing-end {best} {it} c near =
+      let q = c.for-ring in
+      rw (← q.ranked.is-rank)
+      (least-end s.points.now s.directory.now at (rank_of s.table.now s.n) s.n s.filed.ranks-permute it.rings.item_count best
+      (least-over (may_own s.points.now s.directory.now at) (rank_of s.table.now s.n) s.n it.next it.rings.item_count best c.least
+      (passed-is-no-owner s.filed at (near_here q near) q.reached))
+      (all-passed q))

@@ -18,17 +18,6 @@ use Rattle.extents.specs.Records.{record_ring, record_rings, Permutes}
 use Rattle.owners.specs.Searched.{takes_other, evenly_taken}
 use Rattle.owners.proofs.Ranks.{sum_over}
 
-module _ (points directory : List ℕ) (at r : ℕ) where
-  -- a ring is none of the others
-  pub itself : at ≡ r → false ≡ takes_other points directory at r
-  unfolding takes_other
-  itself e = rw (eq-eqb at r e)
-
-  -- any other ring
-  pub another : {b : Bool} → (at ≡ r → ⊥) → b ≡ takes (record_ring points directory r) (record_ring points directory at) → b ≡ takes_other points directory at r
-  unfolding takes_other
-  another ne e = rw (ne_eqb at r ne) e
-
 module _ (points directory : List ℕ) (at : ℕ) where
   counts-one : (other taken : Bool) → cond other 0 (when 1 taken) ≡ when 1 (not other && taken)
   counts-one true taken = refl
@@ -70,19 +59,21 @@ module _ (test : ℕ → Bool) where
   passed_over : (i j : ℕ) → i ≤ j → ((k : ℕ) → i ≤ k → k < j → test k ≡ false) → passing j ≡ passing i
   passed_over i j h none = sum_over (λ k. when 1 (test k)) i j h (λ k from below. ap (when 1) (none k from below))
 
-  -- the numbers before the first that is looked at do not pass
-  pub even-begin : (i : ℕ) → ((k : ℕ) → 0 ≤ k → k < i → test k ≡ false) → EvenTo test i true
+  pub even-begin : EvenTo test 0 true
   unfolding sum_from
-  even-begin i none = record { so_far = sym (eq-eqb (passing i % 2) 0 (omega (arith, passed_over 0 i (omega arith) none))) }
+  even-begin = record { so_far = refl }
 
-  -- a number is looked at, and those before the next that is looked at do not pass
-  pub even-next : {i : ℕ} {even : Bool} (j : ℕ) → EvenTo test i even → i + 1 ≤ j → ((k : ℕ) → i + 1 ≤ k → k < j → test k ≡ false) →
-      EvenTo test j (xor even (test i))
-  even-next {i} {even} j s h none =
+  -- numbers that do not pass are passed over
+  pub even-over : {i : ℕ} {even : Bool} (j : ℕ) → EvenTo test i even → i ≤ j → ((k : ℕ) → i ≤ k → k < j → test k ≡ false) → EvenTo test j even
+  even-over {i} j s h none = record { so_far = rw (passed_over i j h none) s.so_far }
+
+  -- a number is looked at
+  pub even-seen : {i : ℕ} {even : Bool} → EvenTo test i even → EvenTo test (i + 1) (xor even (test i))
+  even-seen {i} {even} s =
       record {
         so_far =
-            one_more (passing i) (passing j) even (test i) s.so_far
-            (omega (arith, passed_over (i + 1) j h none, ap passing (add-one i), sum-last (λ k. when 1 (test k)) i));
+            one_more (passing i) (passing (i + 1)) even (test i) s.so_far
+            (omega (arith, ap passing (add-one i), sum-last (λ k. when 1 (test k)) i));
       }
 
 -- all rings are looked at

@@ -13,18 +13,18 @@ use owners::{class_all, own_all};
 use sorting::sort_records;
 
 // The records of a contour's `n` rings, by ring number. The scratch table holds anything afterwards.
+// Kept: records and extents are words of tables that the caller lends, longer than what is used of them, as the C interface hands them in.
 pub fn own_contour(points: &[u16], directory: &mut [u32], n: usize, scratch: &mut [u32])
     requires { Workable points.now directory.old scratch.old n }
     ensures { directory.new ≡ written (contour_by short_of (counted_rings points.now directory.old 0 n)) directory.old }
 {
     note_rings(points, directory, n, false);
     let filing = file(points, directory, n, scratch);
-    let rings = filing.rings;
-    let chunks = filing.chunks;
-    own_all(points, directory, scratch, n, rings, chunks);
+    own_all(points, directory, scratch, n, filing);
 }
 
 // Sorts the first `n` records by the third word of each. The scratch table holds anything afterwards.
+#[tactic(auto, unfolding(crate::specs::Regions::sorted_first))]
 fn sort_first(directory: &mut [u32], n: usize, scratch: &mut [u32])
     requires { (4 * n ≤ length directory.old) × (4 * n ≤ length scratch.old) }
     ensures { directory.new ≡ sorted_first directory.old n }
@@ -43,8 +43,6 @@ pub fn own_band(points: &[u16], directory: &mut [u32], n: usize, scratch: &mut [
     note_high(points, directory, n);
     sort_first(directory, n, scratch);
     let filing = file(points, directory, n, scratch);
-    let rings = filing.rings;
-    let chunks = filing.chunks;
-    class_all(points, directory, scratch, n, rings, chunks);
-    own_all(points, directory, scratch, n, rings, chunks);
+    class_all(points, directory, scratch, n, filing);
+    own_all(points, directory, scratch, n, filing);
 }

@@ -5,37 +5,9 @@ use lib.ListN.{length}
 use native.Mathlib.Omega.{arith}
 use Rattle.extents.specs.Records.{record_first, record_count, record_ring, rank_of}
 use Rattle.extents.proofs.Stores.{put-length, put_other, put-read}
-use Rattle.filing.proofs.Measures.{record-there, ring-there}
+use Rattle.filing.proofs.Measures.{ring-there}
 use borrow.Author.Rules.{rules}
 use Rattle.filing.proofs.measure_ring.Goals as goal
-
-pub overflow_mul-first : goal.overflow_mul-first
-unfolding rank_of
-overflow_mul-first c = omega (arith, record-there c.requires)
-
-pub offset_bounds-directory-r : goal.offset_bounds-directory-r
-unfolding rank_of
-offset_bounds-directory-r c = omega (arith, record-there c.requires)
-
-pub bounds-directory-r : goal.bounds-directory-r
-unfolding rank_of
-bounds-directory-r c = omega (arith, record-there c.requires)
-
-pub overflow_mul-count : goal.overflow_mul-count
-unfolding rank_of
-overflow_mul-count c = omega (arith, record-there c.requires)
-
-pub overflow_add-count : goal.overflow_add-count
-unfolding rank_of
-overflow_add-count c = omega (arith, record-there c.requires)
-
-pub offset_bounds-directory-r-2 : goal.offset_bounds-directory-r-2
-unfolding rank_of
-offset_bounds-directory-r-2 c = omega (arith, record-there c.requires)
-
-pub bounds-directory-r-2 : goal.bounds-directory-r-2
-unfolding rank_of
-bounds-directory-r-2 c = omega (arith, record-there c.requires)
 
 pub extent_of-extent-requires : goal.extent_of-extent-requires
 unfolding rank_of record_first record_count

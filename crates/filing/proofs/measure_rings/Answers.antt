@@ -1,5 +1,5 @@
 -- `filing::measure_rings` meets its contract. The loop's invariant is `MeasuredTo`: the extents of the rings so far stand by number.
--- The measure is the number of rings that are left. Assumes nothing.
+-- Assumes nothing.
 use Rattle.filing.proofs.Measures.{measured-begin, measured-asks, measured-next, measured-end}
 use Rattle.filing.proofs.measure_rings.Goals as goal
 
@@ -12,9 +12,6 @@ measure_ring-requires c = measured-asks c.loop-i.invariant c.loop-i-test.true
 pub loop-i-preserved : goal.loop-i-preserved
 loop-i-preserved c =
     measured-next c.loop-i.invariant c.loop-i-test.true c.measure_ring.ensures
-
-pub shape_of-table : goal.shape_of-table
-shape_of-table c = c.loop-i.invariant.as_long
 
 pub returns : goal.returns
 returns c = measured-end c.loop-i.invariant c.loop-i-test.false

@@ -1,11 +1,7 @@
 -- `filing::measure_rings` meets its contract. The loop's invariant is `MeasuredTo`: the extents of the rings so far stand by number.
--- The measure is the number of rings that are left. Assumes nothing.
-use Prim.Native.Nat.{◌-◌}
+-- Assumes nothing.
 use Rattle.filing.proofs.Measures.{MeasuredTo}
 use Rattle.filing.proofs.measure_rings.Given as goal
 
 abbrev pub invariant-loop-i : goal.invariant-loop-i
 invariant-loop-i l = MeasuredTo l.points l.directory l.initial.table l.n l.table l.i
-
-abbrev pub decreases-loop-i : goal.decreases-loop-i
-decreases-loop-i l = l.n - l.i

@@ -1,11 +1,7 @@
 -- `filing::rank_rings` meets its contract. The loop's invariant is `RankedTo`: the records so far stand at their numbers.
--- The measure is the number of records that are left. Assumes nothing.
-use Prim.Native.Nat.{◌-◌}
+-- Assumes nothing.
 use Rattle.filing.proofs.Ranks.{RankedTo}
 use Rattle.filing.proofs.rank_rings.Given as goal
 
 abbrev pub invariant-loop-r : goal.invariant-loop-r
 invariant-loop-r l = RankedTo l.directory l.initial.table l.n l.table l.r
-
-abbrev pub decreases-loop-r : goal.decreases-loop-r
-decreases-loop-r l = l.n - l.r
