@@ -6,6 +6,7 @@ ghost use Rattle.std.specs.Prelude.{◌≡◌};
 ghost use Rattle.extents.specs.Points.{ring_in};
 ghost use Rattle.deciding.specs.Decisions.{decision_of, RingLies, RingCloses};
 
+use area::point_at;
 use taking::{Place, along};
 
 // What the vertices of a ring come to against another ring, the outer one.
@@ -31,21 +32,17 @@ pub fn decide(
     ensures { result ≡ decision_of (ring_in points.now outer_first outer_count) (ring_in points.now first count) }
 {
     let last = outer_first + (outer_count - 1);
-    let row = points[2 * outer_first + 1];
-    let mut v = 0;
-    while v < count {
-        let x = points[2 * (first + v)];
-        let y = points[2 * (first + v) + 1];
-        let here = v as u32;
-        v += 1;
-        if y == row {
+    let row = point_at(points, outer_first).y;
+    for v in 0..count {
+        let p = point_at(points, first + v);
+        if p.y == row {
             continue;
         }
-        let place = along(points, outer_first, last, x, y, false);
+        let place = along(points, outer_first, last, p, false);
         match place {
             Place::Boundary => continue,
-            Place::Inside => return Decision::Inside(here),
-            Place::Outside => return Decision::Outside(here),
+            Place::Inside => return Decision::Inside(v as u32),
+            Place::Outside => return Decision::Outside(v as u32),
         }
     }
     Decision::Undecided

@@ -1,5 +1,6 @@
 -- `taking::against` meets its contract: the ring's first pair answers, or the others do, which `along` or `along_near` walks. Assumes nothing.
 use mathlib.Core.Path.{sym, ap, ◌∙◌}
+use Rattle.area.specs.Points.{meant}
 use Rattle.extents.specs.Points.{point_in}
 use Rattle.taking.specs.Places.{place_of}
 use Rattle.taking.proofs.Walks.{first-held, first-passed}
@@ -9,14 +10,16 @@ use Rattle.taking.proofs.against.Goals as goal
 pub returns-then-on_pair : goal.returns-then-on_pair
 unfolding place_of point_in
 returns-then-on_pair c =
-    sym (ap place_of (first-held c.args.points.now c.args.first c.args.count _ c.requires.0.some c.on_pair.ensures c.if-on_pair.true))
+    let held = rw (ap meant c.point_at-a.ensures, ap meant c.point_at-b.ensures) at c.on_pair.ensures in
+    sym (ap place_of (first-held c.args.points.now c.args.first c.args.count _ c.requires.0.some held c.if-on_pair.true))
 
 -- past the first pair the others answer
 pub returns-then-count-le64 : goal.returns-then-count-le64
 unfolding point_in
 returns-then-count-le64 c =
-    let others =
-    first-passed c.args.points.now c.args.first c.args.count _ c.requires.0.some c.on_pair.ensures c.if-on_pair.false c.flips-inside.ensures in
+    let held = rw (ap meant c.point_at-a.ensures, ap meant c.point_at-b.ensures) at c.on_pair.ensures in
+    let turned = rw (ap meant c.point_at-a.ensures, ap meant c.point_at-b.ensures) at c.flips-inside.ensures in
+    let others = first-passed c.args.points.now c.args.first c.args.count _ c.requires.0.some held c.if-on_pair.false turned in
     c.along.ensures ∙ sym (ap place_of others)
 
 pub along_near-requires : goal.along_near-requires
@@ -25,6 +28,7 @@ along_near-requires c = (ring-stretch c.requires.0, c.requires.1)
 pub returns : goal.returns
 unfolding point_in
 returns c =
-    let others =
-    first-passed c.args.points.now c.args.first c.args.count _ c.requires.0.some c.on_pair.ensures c.if-on_pair.false c.flips-inside.ensures in
+    let held = rw (ap meant c.point_at-a.ensures, ap meant c.point_at-b.ensures) at c.on_pair.ensures in
+    let turned = rw (ap meant c.point_at-a.ensures, ap meant c.point_at-b.ensures) at c.flips-inside.ensures in
+    let others = first-passed c.args.points.now c.args.first c.args.count _ c.requires.0.some held c.if-on_pair.false turned in
     c.along_near.ensures ∙ sym (ap place_of others)

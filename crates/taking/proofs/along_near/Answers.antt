@@ -55,10 +55,5 @@ unfolding place_of signed
 loop-k-preserved c =
     gone-next c.loop-k.invariant c.near_from-near.ensures c.stop_after-k.ensures false (placed _ outside (sym c.along-place.ensures ∙ c.in-Outside.is))
 
-pub returns-then-within : goal.returns-then-within
-unfolding place_of signed
-returns-then-within c = sym (ap place_of (gone-end c.loop-k.invariant c.loop-k-test.false ∙ ap signed c.if-within.true))
-
 pub returns : goal.returns
-unfolding place_of signed
-returns c = sym (ap place_of (gone-end c.loop-k.invariant c.loop-k-test.false ∙ ap signed c.if-within.false))
+returns c = c.by_sign.ensures ∙ sym (ap place_of (gone-end c.loop-k.invariant c.loop-k-test.false))
