@@ -21,6 +21,7 @@ pub enum Decision {
 }
 
 // What the vertices of a ring come to against the outer ring. A vertex in the row of the outer ring's first point is passed over at once.
+#[tactic(auto, unfolding(scope::specs::Limits::point_limit))]
 pub fn decide(
     points: &[u16],
     outer_first: usize,
