@@ -7,6 +7,7 @@ ghost use Rattle.extents.specs.Points.{ring_in};
 ghost use Rattle.deciding.specs.Decisions.{decision_of, RingLies, RingCloses};
 
 use area::point_at;
+use extents::Span;
 use taking::{Place, along};
 
 // What the vertices of a ring come to against another ring, the outer one.
@@ -22,24 +23,18 @@ pub enum Decision {
 
 // What the vertices of a ring come to against the outer ring. A vertex in the row of the outer ring's first point is passed over at once.
 #[tactic(auto, unfolding(scope::specs::Limits::point_limit))]
-pub fn decide(
-    points: &[u16],
-    outer_first: usize,
-    outer_count: usize,
-    first: usize,
-    count: usize,
-) -> Decision
-    requires { RingCloses points.now outer_first outer_count × RingLies points.now first count }
-    ensures { result ≡ decision_of (ring_in points.now outer_first outer_count) (ring_in points.now first count) }
+pub fn decide(points: &[u16], outer: Span, ring: Span) -> Decision
+    requires { RingCloses points.now outer.first outer.count × RingLies points.now ring.first ring.count }
+    ensures { result ≡ decision_of (ring_in points.now outer.first outer.count) (ring_in points.now ring.first ring.count) }
 {
-    let last = outer_first + (outer_count - 1);
-    let row = point_at(points, outer_first).y;
-    for v in 0..count {
-        let p = point_at(points, first + v);
+    let last = outer.first + (outer.count - 1);
+    let row = point_at(points, outer.first).y;
+    for v in 0..ring.count {
+        let p = point_at(points, ring.first + v);
         if p.y == row {
             continue;
         }
-        let place = along(points, outer_first, last, p, false);
+        let place = along(points, outer.first, last, p, false);
         match place {
             Place::Boundary => continue,
             Place::Inside => return Decision::Inside(v as u32),

@@ -10,6 +10,13 @@ ghost use Rattle.extents.specs.Filling.{Filled, HoldsItems, HoldsGroup, HoldsChu
 
 use area::{Point, point_at};
 
+// So many points in packed order, from the point of number `first` on.
+#[derive(Clone, Copy, PartialEq, Eq)]
+pub struct Span {
+    pub first: usize,
+    pub count: usize,
+}
+
 // The smallest and largest X and Y of some points.
 #[derive(Clone, Copy)]
 pub struct Extent {
@@ -76,10 +83,10 @@ fn with_point(e: Extent, p: Point) -> Extent
     }
 }
 
-// The extent of so many points, from the point of number `first` on.
-pub fn extent_of(points: &[u16], first: usize, count: usize) -> Extent
-    requires { 2 * (first + count) ≤ length points.now }
-    ensures { result ≡ extent_of (ring_in points.now first count) }
+// The extent of a span's points.
+pub fn extent_of(points: &[u16], span: Span) -> Extent
+    requires { 2 * (span.first + span.count) ≤ length points.now }
+    ensures { result ≡ extent_of (ring_in points.now span.first span.count) }
 {
     let mut e = Extent {
         left: 65535,
@@ -87,7 +94,7 @@ pub fn extent_of(points: &[u16], first: usize, count: usize) -> Extent
         top: 65535,
         bottom: 0,
     };
-    for k in first..first + count {
+    for k in span.first..span.first + span.count {
         e = with_point(e, point_at(points, k));
     }
     e
@@ -200,7 +207,11 @@ fn fill_chunks(points: &[u16], table: &mut [u32], count: usize, place: usize)
     ensures { Filled (HoldsChunk points.now) table.old table.new place count }
 {
     for j in 0..count {
-        let e = extent_of(points, 64 * j, 65);
+        let chunk = Span {
+            first: 64 * j,
+            count: 65,
+        };
+        let e = extent_of(points, chunk);
         put_extent(table, place + 2 * j, e);
     }
 }

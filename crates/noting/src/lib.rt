@@ -10,6 +10,7 @@ ghost use Rattle.noting.specs.Noted.{Countable, Noted, Measurable, HighNoted, no
 ghost use Rattle.noting.specs.Step.{RingWithin, RecordNotable, NotedOne, RecordMeasurable, high_put};
 
 use area::AreaAnswer;
+use extents::Span;
 use limits::{HOLE, POLYGON, SHORT_STRIDE};
 
 // Whether a ring of this area is a polygon.
@@ -20,11 +21,12 @@ fn is_polygon(area: i64) -> bool
     0 < area
 }
 
-// The area of the ring of `count` points from point `first` on.
-pub fn area_at(points: &[u16], first: usize, count: usize) -> i64
-    requires { RingWithin points.now first count }
-    ensures { result ≡ area (ring_in points.now first count) }
+// The area of a ring.
+pub fn area_at(points: &[u16], ring: Span) -> i64
+    requires { RingWithin points.now ring.first ring.count }
+    ensures { result ≡ area (ring_in points.now ring.first ring.count) }
 {
+    let Span { first, count } = ring;
     let start = 2 * first;
     let end = 2 * (first + count);
     let AreaAnswer::Area(area) = area::area(&points[start..end]) else {
@@ -35,21 +37,21 @@ pub fn area_at(points: &[u16], first: usize, count: usize) -> i64
 
 // The sort key of that ring: a fourth of its size.
 #[tactic(auto, unfolding(scope::specs::Band::sort_key))]
-fn key_at(points: &[u16], first: usize, count: usize) -> u64
-    requires { RingWithin points.now first count }
-    ensures { result ≡ sort_key (ring_in points.now first count) }
+fn key_at(points: &[u16], ring: Span) -> u64
+    requires { RingWithin points.now ring.first ring.count }
+    ensures { result ≡ sort_key (ring_in points.now ring.first ring.count) }
 {
-    area_at(points, first, count).unsigned_abs() / 4
+    area_at(points, ring).unsigned_abs() / 4
 }
 
 // What a record is to hold of its ring in the third word.
 pub trait Note {
     ghost note: { Line → ℕ };
 
-    // The note of the ring of `count` points from point `first` on.
-    fn note_at(points: &[u16], first: usize, count: usize) -> u32
-        requires { RingWithin points.now first count }
-        ensures { result ≡ note (ring_in points.now first count) };
+    // The note of a ring.
+    fn note_at(points: &[u16], ring: Span) -> u32
+        requires { RingWithin points.now ring.first ring.count }
+        ensures { result ≡ note (ring_in points.now ring.first ring.count) };
 }
 
 // The class by the sign of the area: 0 for a polygon and 1 for a hole.
@@ -59,8 +61,8 @@ impl Note for Class {
     ghost note = { note_of false };
 
     #[tactic(auto, unfolding(crate::specs::Noted::note_of))]
-    fn note_at(points: &[u16], first: usize, count: usize) -> u32 {
-        if is_polygon(area_at(points, first, count)) {
+    fn note_at(points: &[u16], ring: Span) -> u32 {
+        if is_polygon(area_at(points, ring)) {
             POLYGON
         } else {
             HOLE
@@ -75,8 +77,8 @@ impl Note for Size {
     ghost note = { note_of true };
 
     #[tactic(auto, unfolding(crate::specs::Noted::note_of))]
-    fn note_at(points: &[u16], first: usize, count: usize) -> u32 {
-        (key_at(points, first, count) % 4294967296) as u32
+    fn note_at(points: &[u16], ring: Span) -> u32 {
+        (key_at(points, ring) % 4294967296) as u32
     }
 }
 
@@ -88,7 +90,7 @@ fn note_ring<N: Note>(points: &[u16], directory: &mut [u32], r: usize, first: us
 {
     let at = SHORT_STRIDE * r;
     let count = directory[at + 1] as usize;
-    let note = N::note_at(points, first, count);
+    let note = N::note_at(points, Span { first, count });
     directory[at] = first as u32;
     directory[at + 2] = note;
     directory[at + 3] = r as u32;
@@ -115,7 +117,7 @@ fn put_high(points: &[u16], directory: &mut [u32], r: usize)
     let at = SHORT_STRIDE * r;
     let first = directory[at] as usize;
     let count = directory[at + 1] as usize;
-    let high = key_at(points, first, count) / 4294967296;
+    let high = key_at(points, Span { first, count }) / 4294967296;
     directory[at + 2] = high as u32;
 }
 

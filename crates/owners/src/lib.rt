@@ -10,7 +10,7 @@ ghost use Rattle.extents.specs.Records.{record_ring, RingsThere, Permutes, rank_
 ghost use Rattle.owners.specs.Owned.{class_in, Classed, owner_in, Owned};
 ghost use Rattle.owners.specs.Searched.{takes_other, evenly_taken, bettered, first_taker, RankIs, Ranked};
 
-use extents::{Extent, Ladder};
+use extents::{Extent, Ladder, Span};
 use limits::{HOLE, NO_OWNER, POLYGON, SHORT_STRIDE};
 
 // A word of a table as a number.
@@ -65,10 +65,11 @@ fn record_takes(
     let count = word(directory, SHORT_STRIDE * at + 1);
     taking::takes(
         points,
-        outer_first,
-        outer_count,
-        first,
-        count,
+        Span {
+            first: outer_first,
+            count: outer_count,
+        },
+        Span { first, count },
         table,
         chunks,
     )

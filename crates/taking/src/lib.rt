@@ -11,7 +11,7 @@ ghost use Rattle.taking.specs.Places.{place_of, walk_to, beside};
 ghost use Rattle.taking.specs.Stretches.{StretchThere, PassedOver, first_items, StopsAt};
 
 use area::{Point, flips, on_pair, point_at};
-use extents::{Extent, Ladder, next_near};
+use extents::{Extent, Ladder, Span, next_near};
 
 // Where a point lies to a ring, or to some of its pairs.
 #[derive(Clone, Copy)]
@@ -139,18 +139,12 @@ fn along_near(
     by_sign(within)
 }
 
-// The point p against the ring of `count` points from the point of number `first` on. A ring of few points is walked straight.
-fn against(
-    points: &[u16],
-    first: usize,
-    count: usize,
-    p: Point,
-    table: &[u32],
-    chunks: Ladder,
-) -> Place
-    requires { RingThere points.now first count × Chunked points.now table.now chunks }
-    ensures { result ≡ place_of (point_against (ring_in points.now first count) (meant p)) }
+// The point p against a ring. A ring of few points is walked straight.
+fn against(points: &[u16], ring: Span, p: Point, table: &[u32], chunks: Ladder) -> Place
+    requires { RingThere points.now ring.first ring.count × Chunked points.now table.now chunks }
+    ensures { result ≡ place_of (point_against (ring_in points.now ring.first ring.count) (meant p)) }
 {
+    let Span { first, count } = ring;
     let last = first + (count - 1);
     let a = point_at(points, last);
     let b = point_at(points, first);
@@ -165,21 +159,13 @@ fn against(
 }
 
 // Whether the outer ring takes the tested ring. The ladder passes over points of the outer ring that can neither hold a vertex nor flip its sign.
-pub fn takes(
-    points: &[u16],
-    outer_first: usize,
-    outer_count: usize,
-    first: usize,
-    count: usize,
-    table: &[u32],
-    chunks: Ladder,
-) -> bool
-    requires { RingThere points.now outer_first outer_count × RingThere points.now first count × Chunked points.now table.now chunks }
-    ensures { result ≡ takes (ring_in points.now outer_first outer_count) (ring_in points.now first count) }
+pub fn takes(points: &[u16], outer: Span, tested: Span, table: &[u32], chunks: Ladder) -> bool
+    requires { RingThere points.now outer.first outer.count × RingThere points.now tested.first tested.count × Chunked points.now table.now chunks }
+    ensures { result ≡ takes (ring_in points.now outer.first outer.count) (ring_in points.now tested.first tested.count) }
 {
-    for v in first..first + count {
+    for v in tested.first..tested.first + tested.count {
         let p = point_at(points, v);
-        let place = against(points, outer_first, outer_count, p, table, chunks);
+        let place = against(points, outer, p, table, chunks);
         match place {
             Place::Boundary => continue,
             Place::Inside => return true,

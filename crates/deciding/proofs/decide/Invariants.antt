@@ -5,4 +5,4 @@ use Rattle.deciding.proofs.Laws.{Left}
 use Rattle.deciding.proofs.decide.Given as goal
 
 abbrev pub invariant-loop-v : goal.invariant-loop-v
-invariant-loop-v l = Left (ring_in l.points l.outer_first l.outer_count) l.points l.first l.count l.v
+invariant-loop-v l = Left (ring_in l.points l.fn.outer.first l.fn.outer.count) l.points l.fn.ring.first l.fn.ring.count l.v

@@ -4,4 +4,4 @@ use Rattle.extents.proofs.Growing.{Growing}
 use Rattle.extents.proofs.extent_of.Given as goal
 
 abbrev pub invariant-loop-k : goal.invariant-loop-k
-invariant-loop-k l = Growing l.points l.first l.count l.e l.k
+invariant-loop-k l = Growing l.points l.fn.span.first l.fn.span.count l.e l.k

@@ -11,7 +11,7 @@ pub returns-then-on_pair : goal.returns-then-on_pair
 unfolding place_of point_in
 returns-then-on_pair c =
     let held = rw (ap meant c.point_at-a.ensures, ap meant c.point_at-b.ensures) at c.on_pair.ensures in
-    sym (ap place_of (first-held c.args.points.now c.args.first c.args.count _ c.requires.0.some held c.if-on_pair.true))
+    sym (ap place_of (first-held c.args.points.now c.args.ring.first c.args.ring.count _ c.requires.0.some held c.if-on_pair.true))
 
 -- past the first pair the others answer
 pub returns-then-count-le64 : goal.returns-then-count-le64
@@ -19,7 +19,7 @@ unfolding point_in
 returns-then-count-le64 c =
     let held = rw (ap meant c.point_at-a.ensures, ap meant c.point_at-b.ensures) at c.on_pair.ensures in
     let turned = rw (ap meant c.point_at-a.ensures, ap meant c.point_at-b.ensures) at c.flips-inside.ensures in
-    let others = first-passed c.args.points.now c.args.first c.args.count _ c.requires.0.some held c.if-on_pair.false turned in
+    let others = first-passed c.args.points.now c.args.ring.first c.args.ring.count _ c.requires.0.some held c.if-on_pair.false turned in
     c.along.ensures ∙ sym (ap place_of others)
 
 pub along_near-requires : goal.along_near-requires
@@ -30,5 +30,5 @@ unfolding point_in
 returns c =
     let held = rw (ap meant c.point_at-a.ensures, ap meant c.point_at-b.ensures) at c.on_pair.ensures in
     let turned = rw (ap meant c.point_at-a.ensures, ap meant c.point_at-b.ensures) at c.flips-inside.ensures in
-    let others = first-passed c.args.points.now c.args.first c.args.count _ c.requires.0.some held c.if-on_pair.false turned in
+    let others = first-passed c.args.points.now c.args.ring.first c.args.ring.count _ c.requires.0.some held c.if-on_pair.false turned in
     c.along_near.ensures ∙ sym (ap place_of others)

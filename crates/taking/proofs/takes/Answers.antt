@@ -13,7 +13,7 @@ use Rattle.taking.proofs.takes.Goals as goal
 
 pub loop-v-init : goal.loop-v-init
 loop-v-init c =
-    let e : c.args.first + c.args.count - c.args.first ≡ c.args.count = omega arith in
+    let e : c.args.tested.first + c.args.tested.count - c.args.tested.first ≡ c.args.tested.count = omega arith in
     record { left = rw e refl }
 
 pub loop-v-preserved : goal.loop-v-preserved

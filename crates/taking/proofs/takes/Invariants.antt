@@ -5,4 +5,4 @@ use Rattle.taking.proofs.Walks.{Passed}
 use Rattle.taking.proofs.takes.Given as goal
 
 abbrev pub invariant-loop-v : goal.invariant-loop-v
-invariant-loop-v l = Passed (ring_in l.points l.outer_first l.outer_count) (ring_in l.points l.first l.count) l.points (l.first + l.count) l.v
+invariant-loop-v l = Passed (ring_in l.points l.fn.outer.first l.fn.outer.count) (ring_in l.points l.fn.tested.first l.fn.tested.count) l.points (l.fn.tested.first + l.fn.tested.count) l.v
