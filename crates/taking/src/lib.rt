@@ -13,6 +13,15 @@ ghost use Rattle.taking.specs.Stretches.{StretchThere, PassedOver, first_items, 
 use area::{Point, flips, on_pair, point_at};
 use extents::{Extent, Ladder, Span, next_near};
 
+// The points of all rings in packed order, and a ladder over them in a table.
+#[derive(Clone, Copy)]
+struct Packed<'a> {
+    points: &'a [u16],
+    table: &'a [u32],
+    chunks: Ladder,
+    ghost chunked: { Chunked points.now table.now chunks },
+}
+
 // Where a point lies to a ring, or to some of its pairs.
 #[derive(Clone, Copy)]
 pub enum Place {
@@ -109,53 +118,47 @@ fn stop_after(k: usize, last: usize) -> usize
     k + (64 - k % 64).min(last - k)
 }
 
-// As `along`, where the ladder passes over the chunks that are apart from what lies right of the point in its row.
-fn along_near(
-    points: &[u16],
-    from: usize,
-    last: usize,
-    p: Point,
-    inside: bool,
-    table: &[u32],
-    chunks: Ladder,
-) -> Place
-    requires { StretchThere points.now from last × Chunked points.now table.now chunks }
-    ensures { result ≡ place_of (walk_to points.now from last (meant p) inside) }
-{
-    let ladder = first_items(chunks, last / 64 + 1);
-    let mut within = inside;
-    let mut k = from;
-    // Kept: a turn goes on behind the chunks that are passed over and the one that is walked, which no range counts.
-    while k < last {
-        let near = near_from(table, ladder, k, last, p);
-        k = stop_after(near, last);
-        let place = along(points, near, k, p, within);
-        match place {
-            Place::Boundary => return Place::Boundary,
-            Place::Inside => within = true,
-            Place::Outside => within = false,
+impl Packed<'_> {
+    // As `along`, where the ladder passes over the chunks that are apart from what lies right of the point in its row.
+    fn along_near(&self, from: usize, last: usize, p: Point, inside: bool) -> Place
+        requires { StretchThere self.now.points.now from last }
+        ensures { result ≡ place_of (walk_to self.now.points.now from last (meant p) inside) }
+    {
+        let ladder = first_items(self.chunks, last / 64 + 1);
+        let mut within = inside;
+        let mut k = from;
+        // Kept: a turn goes on behind the chunks that are passed over and the one that is walked, which no range counts.
+        while k < last {
+            let near = near_from(self.table, ladder, k, last, p);
+            k = stop_after(near, last);
+            let place = along(self.points, near, k, p, within);
+            match place {
+                Place::Boundary => return Place::Boundary,
+                Place::Inside => within = true,
+                Place::Outside => within = false,
+            }
         }
+        by_sign(within)
     }
-    by_sign(within)
-}
 
-// The point p against a ring. A ring of few points is walked straight.
-fn against(points: &[u16], ring: Span, p: Point, table: &[u32], chunks: Ladder) -> Place
-    requires { RingThere points.now ring.first ring.count × Chunked points.now table.now chunks }
-    ensures { result ≡ place_of (point_against (ring_in points.now ring.first ring.count) (meant p)) }
-{
-    let Span { first, count } = ring;
-    let last = first + (count - 1);
-    let a = point_at(points, last);
-    let b = point_at(points, first);
-    if on_pair(a, b, p) {
-        return Place::Boundary;
+    // The point p against a ring. A ring of few points is walked straight.
+    fn against(&self, ring: Span, p: Point) -> Place
+        requires { RingThere self.now.points.now ring.first ring.count }
+        ensures { result ≡ place_of (point_against (ring_in self.now.points.now ring.first ring.count) (meant p)) }
+    {
+        let Span { first, count } = ring;
+        let last = first + (count - 1);
+        let a = point_at(self.points, last);
+        let b = point_at(self.points, first);
+        if on_pair(a, b, p) {
+            return Place::Boundary;
+        }
+        let inside = flips(a, b, p);
+        if count <= 64 {
+            return along(self.points, first, last, p, inside);
+        }
+        self.along_near(first, last, p, inside)
     }
-    let inside = flips(a, b, p);
-    if count <= 64 {
-        return along(points, first, last, p, inside);
-    }
-    along_near(points, first, last, p, inside, table, chunks)
 }
 
 // Whether the outer ring takes the tested ring. The ladder passes over points of the outer ring that can neither hold a vertex nor flip its sign.
@@ -163,9 +166,14 @@ pub fn takes(points: &[u16], outer: Span, tested: Span, table: &[u32], chunks: L
     requires { RingThere points.now outer.first outer.count × RingThere points.now tested.first tested.count × Chunked points.now table.now chunks }
     ensures { result ≡ takes (ring_in points.now outer.first outer.count) (ring_in points.now tested.first tested.count) }
 {
+    let packed = Packed {
+        points,
+        table,
+        chunks,
+    };
     for v in tested.first..tested.first + tested.count {
         let p = point_at(points, v);
-        let place = against(points, outer, p, table, chunks);
+        let place = packed.against(outer, p);
         match place {
             Place::Boundary => continue,
             Place::Inside => return true,
