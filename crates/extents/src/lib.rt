@@ -42,17 +42,7 @@ pub struct Ladder {
 fn apart(e: Extent, f: Extent) -> bool
     ensures { result ≡ apart e f }
 {
-    // Kept: joined by `||` all four tests are made at every extent, and the contour of noise three quarters above took 1.22 times as long.
-    if e.right < f.left {
-        return true;
-    }
-    if f.right < e.left {
-        return true;
-    }
-    if e.bottom < f.top {
-        return true;
-    }
-    f.bottom < e.top
+    e.right < f.left || f.right < e.left || e.bottom < f.top || f.bottom < e.top
 }
 
 // The extent in the two words at a place.
@@ -131,22 +121,28 @@ pub fn next_near(table: &[u32], ladder: Ladder, from: usize, query: Extent) -> u
     requires { Raised table.now ladder × (from ≤ ladder.item_count) }
     ensures { NextNear table.now ladder from query result }
 {
+    let items = ladder.items;
+    let item_count = ladder.item_count;
+    let groups = ladder.groups;
+    let group_count = ladder.group_count;
+    let blocks = ladder.blocks;
+    let block_count = ladder.block_count;
     let mut i = from;
     // Kept: a turn goes on by an item, a group or a block, which no range counts.
-    while i < ladder.item_count {
+    while i < item_count {
         if i % 64 == 0 {
             if i % 4096 == 0 {
-                if whole_apart(table, ladder.blocks, ladder.block_count, i / 4096, query) {
+                if whole_apart(table, blocks, block_count, i / 4096, query) {
                     i += 4096;
                     continue;
                 }
             }
-            if whole_apart(table, ladder.groups, ladder.group_count, i / 64, query) {
+            if whole_apart(table, groups, group_count, i / 64, query) {
                 i += 64;
                 continue;
             }
         }
-        if !apart_at(table, ladder.items + 2 * i, query) {
+        if !apart_at(table, items + 2 * i, query) {
             return i;
         }
         i += 1;

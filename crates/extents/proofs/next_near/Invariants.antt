@@ -5,7 +5,19 @@ use Rattle.extents.proofs.Passing.{Passed}
 use Rattle.extents.proofs.next_near.Given as goal
 
 abbrev pub invariant-loop-i : goal.invariant-loop-i
-invariant-loop-i l = Passed l.table l.ladder l.from l.query l.i
+invariant-loop-i l = Passed
+    l.table
+    (record {
+      items = l.items;
+      item_count = l.item_count;
+      groups = l.groups;
+      group_count = l.group_count;
+      blocks = l.blocks;
+      block_count = l.block_count;
+    })
+    l.from
+    l.query
+    l.i
 
 abbrev pub decreases-loop-i : goal.decreases-loop-i
-decreases-loop-i l = l.ladder.item_count - l.i
+decreases-loop-i l = l.item_count - l.i
