@@ -2,9 +2,11 @@
 // Words are X, Y, X, Y, and so on. Both functions answer on every input, and change nothing.
 #![tactic(auto)]
 
-ghost use Rattle.std.specs.Prelude.{◌≡◌, cond, ◌+◌, ◌*◌, ◌%◌, ◌^◌, ◌<◌, eqb, length};
+ghost use Rattle.std.specs.Prelude.{◌≡◌, cond, ◌+◌, ◌*◌, ◌%◌, ◌^◌, ◌<◌, ◌≤◌, eqb, nat_lt, length, slice_index};
+ghost use Rattle.std.specs.List.{list_any};
 ghost use Rattle.scope.specs.Area.{faulty_words, area_refused};
 ghost use Rattle.scope.specs.Containment.{between, on_pair, flips};
+ghost use Rattle.area.specs.Points.{meant};
 ghost use Rattle.area.specs.Answers.{area_answer, contains_answer};
 ghost use Rattle.area.specs.Summed.{SummedUp};
 
@@ -22,41 +24,52 @@ pub enum Containment {
     Outside,
 }
 
+// A point of doubled coordinates.
+#[derive(Clone, Copy, PartialEq, Eq)]
+pub struct Point {
+    pub x: u16,
+    pub y: u16,
+}
+
+// The point of number `k` of the words X, Y, X, Y, and so on.
+pub fn point_at(words: &[u16], k: usize) -> Point
+    requires { 2 * k + 2 ≤ length words.now }
+    ensures { result ≡ record { x = slice_index words.now (2 * k); y = slice_index words.now (2 * k + 1) } }
+{
+    Point {
+        x: words[2 * k],
+        y: words[2 * k + 1],
+    }
+}
+
+// Whether a word lies above the coordinate limit.
+fn any_above(words: &[u16]) -> bool
+    ensures { result ≡ list_any (λ w. nat_lt COORDINATE_LIMIT w) words.now }
+{
+    words.iter().any(|word| COORDINATE_LIMIT < *word)
+}
+
 // Whether the words are faulty: an odd count, too many points, or a coordinate above the limit.
+#[tactic(auto, unfolding(scope::specs::Area::faulty_words, scope::specs::Limits::point_limit))]
 fn faulty(words: &[u16]) -> bool
     ensures { result ≡ faulty_words words.now }
 {
-    if words.len() % 2 == 1 {
-        return true;
-    }
-    if POINT_LIMIT < words.len() / 2 {
-        return true;
-    }
-    let mut i = 0;
-    while i < words.len() {
-        if COORDINATE_LIMIT < words[i] {
-            return true;
-        }
-        i += 1;
-    }
-    false
+    words.len() % 2 == 1 || POINT_LIMIT < words.len() / 2 || any_above(words)
 }
 
 // Whether the words are no ring: none at all, or faulty ones.
+#[tactic(auto, unfolding(scope::specs::Area::area_refused))]
 fn no_ring(words: &[u16]) -> bool
     ensures { result ≡ area_refused words.now }
 {
-    if words.len() == 0 {
-        return true;
-    }
-    faulty(words)
+    words.is_empty() || faulty(words)
 }
 
 // The whole product of two coordinates.
 fn product(a: u16, b: u16) -> u64
     ensures { (result ≡ a * b) × (result < 2 ^ 32) }
 {
-    (a as u64) * (b as u64)
+    u64::from(a) * u64::from(b)
 }
 
 // What one walk over a ring's words finds: whether a coordinate is above the limit, and two sums, whose difference is the area.
@@ -72,22 +85,17 @@ pub fn sum_up(ring: &[u16]) -> RingSums
     requires { (length ring.now % 2 ≡ 0) × (0 < length ring.now) × (length ring.now < 2 ^ 33) }
     ensures { SummedUp ring.now result }
 {
-    let n = ring.len();
-    let mut x = ring[n - 2];
-    let mut y = ring[n - 1];
+    let n = ring.len() / 2;
+    let mut last = point_at(ring, n - 1);
     let mut gained: u64 = 0;
     let mut lost: u64 = 0;
     let mut over = false;
-    let mut i = 0;
-    while i < n {
-        let next_x = ring[i];
-        let next_y = ring[i + 1];
-        over = over | (COORDINATE_LIMIT < next_x) | (COORDINATE_LIMIT < next_y);
-        gained += product(y, next_x);
-        lost += product(x, next_y);
-        x = next_x;
-        y = next_y;
-        i += 2;
+    for i in 0..n {
+        let next = point_at(ring, i);
+        over = over | (COORDINATE_LIMIT < next.x) | (COORDINATE_LIMIT < next.y);
+        gained += product(last.y, next.x);
+        lost += product(last.x, next.y);
+        last = next;
     }
     RingSums { over, gained, lost }
 }
@@ -105,6 +113,7 @@ pub fn area(ring: &[u16]) -> Result<i64, Refusal>
 }
 
 // Whether k lies between m and n, ends included.
+#[tactic(auto, unfolding(scope::specs::Containment::between))]
 fn between(m: u16, k: u16, n: u16) -> bool
     ensures { result ≡ between m k n }
 {
@@ -112,45 +121,42 @@ fn between(m: u16, k: u16, n: u16) -> bool
 }
 
 // Whether p lies between the ends a and b, ends included: by y when the ends have equal x, else by x.
-fn spanned(ax: u16, ay: u16, bx: u16, by: u16, px: u16, py: u16) -> bool
-    ensures { result ≡ cond (eqb ax bx) (between ay py by) (between ax px bx) }
+fn spanned(a: Point, b: Point, p: Point) -> bool
+    ensures { result ≡ cond (eqb a.x b.x) (between a.y p.y b.y) (between a.x p.x b.x) }
 {
-    if ax == bx {
-        between(ay, py, by)
+    if a.x == b.x {
+        between(a.y, p.y, b.y)
     } else {
-        between(ax, px, bx)
+        between(a.x, p.x, b.x)
     }
 }
 
 // The sum of each point's x times the next point's y, over three points in a circle.
-fn turning(ax: u16, ay: u16, bx: u16, by: u16, cx: u16, cy: u16) -> u64
-    ensures { result ≡ ax * by + bx * cy + cx * ay }
+fn turning(a: Point, b: Point, c: Point) -> u64
+    ensures { result ≡ a.x * b.y + b.x * c.y + c.x * a.y }
 {
-    product(ax, by) + product(bx, cy) + product(cx, ay)
+    product(a.x, b.y) + product(b.x, c.y) + product(c.x, a.y)
 }
 
 // Whether p lies on the straight piece from a to b, ends included.
-pub fn on_pair(ax: u16, ay: u16, bx: u16, by: u16, px: u16, py: u16) -> bool
-    ensures { result ≡ on_pair (record { x = ax; y = ay }) (record { x = bx; y = by }) (record { x = px; y = py }) }
+pub fn on_pair(a: Point, b: Point, p: Point) -> bool
+    ensures { result ≡ on_pair (meant a) (meant b) (meant p) }
 {
-    if !spanned(ax, ay, bx, by, px, py) {
-        return false;
-    }
-    turning(px, py, bx, by, ax, ay) == turning(ax, ay, bx, by, px, py)
+    spanned(a, b, p) && turning(p, b, a) == turning(a, b, p)
 }
 
 // Whether the pair a, b flips the sign: one end has y above p's and the other has not, and p is left of the exact crossing.
-pub fn flips(ax: u16, ay: u16, bx: u16, by: u16, px: u16, py: u16) -> bool
-    ensures { result ≡ flips (record { x = ax; y = ay }) (record { x = bx; y = by }) (record { x = px; y = py }) }
+pub fn flips(a: Point, b: Point, p: Point) -> bool
+    ensures { result ≡ flips (meant a) (meant b) (meant p) }
 {
-    if py < ay {
-        if py < by {
+    if p.y < a.y {
+        if p.y < b.y {
             return false;
         }
-        return turning(ax, ay, bx, by, px, py) < turning(px, py, bx, by, ax, ay);
+        return turning(a, b, p) < turning(p, b, a);
     }
-    if py < by {
-        return turning(px, py, bx, by, ax, ay) < turning(ax, ay, bx, by, px, py);
+    if p.y < b.y {
+        return turning(p, b, a) < turning(a, b, p);
     }
     false
 }
@@ -166,26 +172,18 @@ pub fn contains(outer: &[u16], tested: &[u16]) -> Result<Containment, Refusal>
     if faulty(tested) {
         return Err(Refusal::BadRing);
     }
-    let n = outer.len();
-    let mut v = 0;
-    'vertices: while v < tested.len() {
-        let x = tested[v];
-        let y = tested[v + 1];
-        v += 2;
-        let mut ax = outer[n - 2];
-        let mut ay = outer[n - 1];
+    let n = outer.len() / 2;
+    'vertices: for v in 0..tested.len() / 2 {
+        let p = point_at(tested, v);
+        let mut last = point_at(outer, n - 1);
         let mut within = false;
-        let mut k = 0;
-        while k < n {
-            let bx = outer[k];
-            let by = outer[k + 1];
-            if on_pair(ax, ay, bx, by, x, y) {
+        for k in 0..n {
+            let next = point_at(outer, k);
+            if on_pair(last, next, p) {
                 continue 'vertices;
             }
-            within = flips(ax, ay, bx, by, x, y) != within;
-            ax = bx;
-            ay = by;
-            k += 2;
+            within = flips(last, next, p) != within;
+            last = next;
         }
         if within {
             return Ok(Containment::Inside);

@@ -72,32 +72,32 @@ module _ {points : List ℕ} {first count : ℕ} (ring : RingCloses points first
 
 -- those from vertex v on come to what all do
 pub record Left (outer : Line) (points : List ℕ) (first count v : ℕ) : Type 0 where
-  pub not-past : v ≤ count
   pub left : decision_of outer (ring_in points first count) ≡ decision_from v outer (ring_in points (first + v) (count - v))
 
 module _ {outer : Line} {points : List ℕ} {first count v : ℕ} (s : Left outer points first count v) where
-  -- a vertex decides, or those after it do
-  vertex-next : v < count →
-      decision_of outer (ring_in points first count) ≡ decided_by v (point_against outer (point_in points (first + v))) (decision_from (v + 1) outer (ring_in points (first + (v + 1)) (count - (v + 1))))
-  unfolding decision_from ring_in
-  vertex-next h =
-      let e : count - v ≡ suc (count - (v + 1)) = omega arith in
-      let f : first + (v + 1) ≡ suc (first + v) = omega arith in
-      s.left ∙ rw (e, f, add-one v) refl
+  module _ (h : v < count) {p : Point} (is : p ≡ point_in points (first + v)) where
+    -- a vertex decides, or those after it do
+    vertex-next : decision_of outer (ring_in points first count)
+        ≡ decided_by v (point_against outer p) (decision_from (v + 1) outer (ring_in points (first + (v + 1)) (count - (v + 1))))
+    unfolding decision_from ring_in
+    vertex-next =
+        let e : count - v ≡ suc (count - (v + 1)) = omega arith in
+        let f : first + (v + 1) ≡ suc (first + v) = omega arith in
+        s.left ∙ rw (e, f, is, add-one v) refl
 
-  -- a vertex that answers 0 is passed
-  pub left-next : v < count → point_against outer (point_in points (first + v)) ≡ boundary → Left outer points first count (v + 1)
-  unfolding decided_by
-  left-next h e = record { not-past = omega arith; left = vertex-next h ∙ rw e refl }
+    -- a vertex that answers 0 is passed
+    pub left-next : point_against outer p ≡ boundary → Left outer points first count (v + 1)
+    unfolding decided_by
+    left-next e = record { left = vertex-next ∙ rw e refl }
 
-  -- any other decides
-  pub left-inside : v < count → point_against outer (point_in points (first + v)) ≡ inside → decision-is.Inside v ≡ decision_of outer (ring_in points first count)
-  unfolding decided_by
-  left-inside h e = sym (vertex-next h ∙ rw e refl)
+    -- any other decides
+    pub left-inside : point_against outer p ≡ inside → decision-is.Inside v ≡ decision_of outer (ring_in points first count)
+    unfolding decided_by
+    left-inside e = sym (vertex-next ∙ rw e refl)
 
-  pub left-outside : v < count → point_against outer (point_in points (first + v)) ≡ outside → decision-is.Outside v ≡ decision_of outer (ring_in points first count)
-  unfolding decided_by
-  left-outside h e = sym (vertex-next h ∙ rw e refl)
+    pub left-outside : point_against outer p ≡ outside → decision-is.Outside v ≡ decision_of outer (ring_in points first count)
+    unfolding decided_by
+    left-outside e = sym (vertex-next ∙ rw e refl)
 
   -- no vertex decides
   pub left-none : count ≤ v → decision-is.Undecided ≡ decision_of outer (ring_in points first count)
@@ -111,4 +111,4 @@ pub left-begin : (outer : Line) (points : List ℕ) (first count : ℕ) → Left
 unfolding decision_of
 left-begin outer points first count =
     let all : count - 0 ≡ count = omega arith in
-    record { not-past = omega arith; left = rw (add-zero, all) refl }
+    record { left = rw (add-zero, all) refl }

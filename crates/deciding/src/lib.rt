@@ -6,6 +6,8 @@ ghost use Rattle.std.specs.Prelude.{◌≡◌};
 ghost use Rattle.extents.specs.Points.{ring_in};
 ghost use Rattle.deciding.specs.Decisions.{decision_of, RingLies, RingCloses};
 
+use area::point_at;
+use extents::Span;
 use taking::{Place, along};
 
 // What the vertices of a ring come to against another ring, the outer one.
@@ -20,32 +22,23 @@ pub enum Decision {
 }
 
 // What the vertices of a ring come to against the outer ring. A vertex in the row of the outer ring's first point is passed over at once.
-pub fn decide(
-    points: &[u16],
-    outer_first: usize,
-    outer_count: usize,
-    first: usize,
-    count: usize,
-) -> Decision
-    requires { RingCloses points.now outer_first outer_count × RingLies points.now first count }
-    ensures { result ≡ decision_of (ring_in points.now outer_first outer_count) (ring_in points.now first count) }
+#[tactic(auto, unfolding(scope::specs::Limits::point_limit))]
+pub fn decide(points: &[u16], outer: Span, ring: Span) -> Decision
+    requires { RingCloses points.now outer.first outer.count × RingLies points.now ring.first ring.count }
+    ensures { result ≡ decision_of (ring_in points.now outer.first outer.count) (ring_in points.now ring.first ring.count) }
 {
-    let last = outer_first + (outer_count - 1);
-    let row = points[2 * outer_first + 1];
-    let mut v = 0;
-    while v < count {
-        let x = points[2 * (first + v)];
-        let y = points[2 * (first + v) + 1];
-        let here = v as u32;
-        v += 1;
-        if y == row {
+    let last = outer.first + (outer.count - 1);
+    let row = point_at(points, outer.first).y;
+    for v in 0..ring.count {
+        let p = point_at(points, ring.first + v);
+        if p.y == row {
             continue;
         }
-        let place = along(points, outer_first, last, x, y, false);
+        let place = along(points, outer.first, last, p, false);
         match place {
             Place::Boundary => continue,
-            Place::Inside => return Decision::Inside(here),
-            Place::Outside => return Decision::Outside(here),
+            Place::Inside => return Decision::Inside(v as u32),
+            Place::Outside => return Decision::Outside(v as u32),
         }
     }
     Decision::Undecided

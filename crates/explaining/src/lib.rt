@@ -12,6 +12,7 @@ ghost use Rattle.explaining.specs.Vertices.{in_grid, midway, vertex_of_ring, ver
 use cells::Point;
 use deciding::{Decision, decide};
 use error::Refusal;
+use extents::Span;
 use grid::grid_fit;
 use noting::area_at;
 use ringset::{record_at, ring_set_faulty};
@@ -45,7 +46,11 @@ fn polygon_at(points: &[u16], directory: &[u32], rings: u32, k: u32) -> bool
     ensures { result ≡ is_polygon_by points.now directory.now k }
 {
     let ring = record_at(directory, k);
-    let area = area_at(points, ring.first as usize, ring.count as usize);
+    let span = Span {
+        first: ring.first as usize,
+        count: ring.count as usize,
+    };
+    let area = area_at(points, span);
     0 < area
 }
 
@@ -56,13 +61,15 @@ fn decision_at(points: &[u16], directory: &[u32], rings: u32, outer: u32, k: u32
 {
     let about = record_at(directory, outer);
     let ring = record_at(directory, k);
-    decide(
-        points,
-        about.first as usize,
-        about.count as usize,
-        ring.first as usize,
-        ring.count as usize,
-    )
+    let outer_span = Span {
+        first: about.first as usize,
+        count: about.count as usize,
+    };
+    let span = Span {
+        first: ring.first as usize,
+        count: ring.count as usize,
+    };
+    decide(points, outer_span, span)
 }
 
 // Whether the answer is not -1.

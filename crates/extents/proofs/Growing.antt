@@ -1,7 +1,8 @@
 -- The extent of points, taken one point at a time: the extent of all is that of the points passed, grown by those that are left. Assumes nothing.
-use mathlib.Core.Path.{◌≡◌, sym, ◌∙◌}
+use mathlib.Core.Path.{◌≡◌, refl, sym, ap, ◌∙◌}
 use mathlib.Core.List.{List, [], ◌∷◌}
-use Prim.Native.Nat.{ℕ, zero, suc, ◌+◌, ◌-◌, ◌*◌, ◌≤◌, ◌<◌}
+use Prim.Native.Nat.{ℕ, zero, suc, min, max, ◌+◌, ◌-◌, ◌*◌, ◌≤◌, ◌<◌}
+use lib.ListN.{get_or}
 use native.Mathlib.Numerals.{add-one}
 use native.Mathlib.Nat.{le_refl, min-eq_left, max-eq_left}
 use native.Mathlib.Omega.{arith}
@@ -18,27 +19,41 @@ unfolding ring_in
 ring-next points k zero h = absurd (omega arith)
 ring-next points k (suc n) h = let fewer : suc n - 1 ≡ n = omega arith in rw (fewer, add-one)
 
--- the points up to number k are in the extent e
+-- the points before number k are in the extent e
 pub record Growing (points : List ℕ) (first count : ℕ) (e : Extent) (k : ℕ) : Type 0 where
-  pub within : k ≤ first + count
   pub left : extent_of (ring_in points first count) ≡ grown_by e (ring_in points k (first + count - k))
 
-pub growing-none : (points : List ℕ) (first count : ℕ) → count ≡ 0 → no_extent ≡ extent_of (ring_in points first count)
-unfolding ring_in extent_of
-growing-none points first count none = rw none
+-- no extent, with a point that fits, is the point's
+grown-none : (p : Point) → p.x ≤ 65535 → p.y ≤ 65535 → grown no_extent p ≡ dot p
+unfolding grown no_extent dot
+grown-none p h k =
+    let left : min 65535 p.x ≡ p.x = omega arith in
+    let right : max 0 p.x ≡ p.x = omega arith in
+    let top : min 65535 p.y ≡ p.y = omega arith in
+    let bottom : max 0 p.y ≡ p.y = omega arith in
+    rw (left, right, top, bottom)
 
-pub growing-begin : (points : List ℕ) (first count : ℕ) → (count ≡ 0 → ⊥) → Growing points first count (dot (point_in points first)) (first + 1)
-unfolding extent_of
-growing-begin points first count some =
-    let left_over : first + count - (first + 1) ≡ count - 1 = omega arith in
-    record { within = omega (arith, some); left = rw (left_over, ring-next points first count (omega (arith, some))) }
+from-first : (p : Point) (l : Line) → p.x ≤ 65535 → p.y ≤ 65535 → extent_of (p ∷ l) ≡ grown_by no_extent (p ∷ l)
+unfolding extent_of grown_by
+from-first p l h k = ap (λ e. grown_by e l) (sym (grown-none p h k))
+
+from-none : (points : List ℕ) (first count : ℕ) → ((i : ℕ) → get_or points i 0 ≤ 65535) →
+    extent_of (ring_in points first count) ≡ grown_by no_extent (ring_in points first count)
+unfolding extent_of grown_by ring_in point_in
+from-none points first zero fits = refl
+from-none points first (suc count) fits = from-first (point_in points first) (ring_in points (suc first) count) (fits (2 * first)) (fits (2 * first + 1))
+
+pub growing-begin : (points : List ℕ) (first count : ℕ) → ((i : ℕ) → get_or points i 0 ≤ 65535) → Growing points first count no_extent first
+growing-begin points first count fits =
+    let all : first + count - first ≡ count = omega arith in
+    record { left = rw all (from-none points first count fits) }
 
 module _ {points : List ℕ} {first count : ℕ} {e : Extent} {k : ℕ} (s : Growing points first count e k) where
   pub growing-next : k < first + count → Growing points first count (grown e (point_in points k)) (k + 1)
   unfolding grown_by
   growing-next h =
       let left_over : first + count - (k + 1) ≡ first + count - k - 1 = omega arith in
-      record { within = omega arith; left = s.left ∙ rw (left_over, ring-next points k (first + count - k) (omega arith)) }
+      record { left = s.left ∙ rw (left_over, ring-next points k (first + count - k) (omega arith)) }
 
   pub growing-end : first + count ≤ k → e ≡ extent_of (ring_in points first count)
   unfolding ring_in grown_by

@@ -1,11 +1,11 @@
 -- What callers cite of extents: apart is a choice of four ways, each of which goes over to an extent inside. Assumes nothing.
 use mathlib.Core.Path.{◌≡◌, refl}
 use mathlib.Core.Bool.{Bool, true, false, ◌||◌, or-true}
-use Prim.Native.Nat.{ℕ, ◌≤◌, ◌<◌}
+use Prim.Native.Nat.{ℕ, ◌≤◌}
 use native.Mathlib.Nat.{le_refl}
 use native.Mathlib.Omega.{arith}
 use lib.Dec.{ltb}
-use borrow.Author.Tests.{ltb-true, lt-ltb, le-ltb}
+use borrow.Author.Tests.{ltb-true, lt-ltb}
 use Rattle.extents.specs.declared.Extent.{Extent}
 use Rattle.extents.specs.Extents.{apart, Inside}
 
@@ -16,24 +16,6 @@ either a b a' b' f g e = by a refl
     by : (t : Bool) → a ≡ t → a' || b' ≡ true
     by true first = rw (f first)
     by false first = rw (g (rw first at e)) (or-true a')
-
--- the four ways to be apart, and what is left where the first three fail
-module _ (e f : Extent) where
-  pub apart-right : e.right < f.left → true ≡ apart e f
-  unfolding apart
-  apart-right h = rw (lt-ltb _ _ h)
-
-  pub apart-left : f.right < e.left → true ≡ apart e f
-  unfolding apart
-  apart-left h = rw (lt-ltb f.right e.left h, or-true)
-
-  pub apart_below : e.bottom < f.top → true ≡ apart e f
-  unfolding apart
-  apart_below h = rw (lt-ltb e.bottom f.top h, or-true)
-
-  pub apart-else : f.left ≤ e.right → e.left ≤ f.right → f.top ≤ e.bottom → ltb f.bottom e.top ≡ apart e f
-  unfolding apart
-  apart-else h k l = rw (le-ltb _ _ h, le-ltb _ _ k, le-ltb _ _ l)
 
 -- what ends before something begins, does so where it ends sooner or that begins later
 sooner : {a a' b b' : ℕ} → a' ≤ a → b ≤ b' → ltb a b ≡ true → ltb a' b' ≡ true

@@ -2,10 +2,20 @@
 #![tactic(auto)]
 
 ghost use Rattle.std.specs.Prelude.{◌≡◌, true, ◌+◌, ◌*◌, ◌-◌, ◌/◌, ◌≤◌, ◌<◌, min, max, length, set};
+ghost use Rattle.area.specs.Points.{meant};
 ghost use Rattle.extents.specs.Points.{ring_in};
 ghost use Rattle.extents.specs.Extents.{apart, grown, Inside, extent_at, extent_of};
 ghost use Rattle.extents.specs.Ladders.{Raised, NextNear, RaisedOver, ChunkedOver};
 ghost use Rattle.extents.specs.Filling.{Filled, HoldsItems, HoldsGroup, HoldsChunk};
+
+use area::{Point, point_at};
+
+// So many points in packed order, from the point of number `first` on.
+#[derive(Clone, Copy, PartialEq, Eq)]
+pub struct Span {
+    pub first: usize,
+    pub count: usize,
+}
 
 // The smallest and largest X and Y of some points.
 #[derive(Clone, Copy)]
@@ -27,37 +37,16 @@ pub struct Ladder {
     pub block_count: usize,
 }
 
-// The smaller of two coordinates.
-fn smaller(a: u16, b: u16) -> u16
-    ensures { result ≡ min a b }
-{
-    if a < b { a } else { b }
-}
-
-// The larger of two coordinates.
-fn larger(a: u16, b: u16) -> u16
-    ensures { result ≡ max a b }
-{
-    if a < b { b } else { a }
-}
-
 // Whether no point can lie in both extents.
+#[tactic(auto, unfolding(crate::specs::Extents::apart))]
 fn apart(e: Extent, f: Extent) -> bool
     ensures { result ≡ apart e f }
 {
-    if e.right < f.left {
-        return true;
-    }
-    if f.right < e.left {
-        return true;
-    }
-    if e.bottom < f.top {
-        return true;
-    }
-    f.bottom < e.top
+    e.right < f.left || f.right < e.left || e.bottom < f.top || f.bottom < e.top
 }
 
 // The extent in the two words at a place.
+#[tactic(auto, unfolding(crate::specs::Extents::extent_at))]
 pub fn extent_at(table: &[u32], at: usize) -> Extent
     requires { at + 2 ≤ length table.now }
     ensures { result ≡ extent_at table.now at }
@@ -77,48 +66,36 @@ pub fn put_extent(table: &mut [u32], at: usize, e: Extent)
     requires { at + 2 ≤ length table.old }
     ensures { table.new ≡ set (set table.old at (e.left + 65536 * e.right)) (at + 1) (e.top + 65536 * e.bottom) }
 {
-    table[at] = (e.left as u32) + 65536 * (e.right as u32);
-    table[at + 1] = (e.top as u32) + 65536 * (e.bottom as u32);
+    table[at] = u32::from(e.left) + 65536 * u32::from(e.right);
+    table[at + 1] = u32::from(e.top) + 65536 * u32::from(e.bottom);
 }
 
 // The extent with one point more.
-fn with_point(e: Extent, x: u16, y: u16) -> Extent
-    ensures { result ≡ grown e (record { x = x; y = y }) }
+#[tactic(auto, unfolding(crate::specs::Extents::grown))]
+fn with_point(e: Extent, p: Point) -> Extent
+    ensures { result ≡ grown e (meant p) }
 {
     Extent {
-        left: smaller(e.left, x),
-        right: larger(e.right, x),
-        top: smaller(e.top, y),
-        bottom: larger(e.bottom, y),
+        left: e.left.min(p.x),
+        right: e.right.max(p.x),
+        top: e.top.min(p.y),
+        bottom: e.bottom.max(p.y),
     }
 }
 
-// The extent of so many points, from the point of number `first` on.
-pub fn extent_of(points: &[u16], first: usize, count: usize) -> Extent
-    requires { 2 * (first + count) ≤ length points.now }
-    ensures { result ≡ extent_of (ring_in points.now first count) }
+// The extent of a span's points.
+pub fn extent_of(points: &[u16], span: Span) -> Extent
+    requires { 2 * (span.first + span.count) ≤ length points.now }
+    ensures { result ≡ extent_of (ring_in points.now span.first span.count) }
 {
-    if count == 0 {
-        return Extent {
-            left: 65535,
-            right: 0,
-            top: 65535,
-            bottom: 0,
-        };
-    }
-    let x = points[2 * first];
-    let y = points[2 * first + 1];
     let mut e = Extent {
-        left: x,
-        right: x,
-        top: y,
-        bottom: y,
+        left: 65535,
+        right: 0,
+        top: 65535,
+        bottom: 0,
     };
-    let end = first + count;
-    let mut k = first + 1;
-    while k < end {
-        e = with_point(e, points[2 * k], points[2 * k + 1]);
-        k += 1;
+    for k in span.first..span.first + span.count {
+        e = with_point(e, point_at(points, k));
     }
     e
 }
@@ -136,11 +113,7 @@ fn whole_apart(table: &[u32], place: usize, count: usize, k: usize, query: Exten
     requires { place + 2 * count ≤ length table.now }
     ensures { result ≡ true → (k < count) × (apart (extent_at table.now (place + 2 * k)) query ≡ true) }
 {
-    if k < count {
-        apart_at(table, place + 2 * k, query)
-    } else {
-        false
-    }
+    k < count && apart_at(table, place + 2 * k, query)
 }
 
 // The first item from `from` on that is not apart from an extent, or the number of items where there is none.
@@ -148,6 +121,7 @@ pub fn next_near(table: &[u32], ladder: Ladder, from: usize, query: Extent) -> u
     requires { Raised table.now ladder × (from ≤ ladder.item_count) }
     ensures { NextNear table.now ladder from query result }
 {
+    // Kept: read in the loop, these make the compiler test all four sides of each extent, and contours of noise three quarters above took 1.23 times as long.
     let items = ladder.items;
     let item_count = ladder.item_count;
     let groups = ladder.groups;
@@ -155,6 +129,7 @@ pub fn next_near(table: &[u32], ladder: Ladder, from: usize, query: Extent) -> u
     let blocks = ladder.blocks;
     let block_count = ladder.block_count;
     let mut i = from;
+    // Kept: a turn goes on by an item, a group or a block, which no range counts.
     while i < item_count {
         if i % 64 == 0 {
             if i % 4096 == 0 {
@@ -181,10 +156,10 @@ fn joined(e: Extent, f: Extent) -> Extent
     ensures { Inside e result × Inside f result }
 {
     Extent {
-        left: smaller(e.left, f.left),
-        right: larger(e.right, f.right),
-        top: smaller(e.top, f.top),
-        bottom: larger(e.bottom, f.bottom),
+        left: e.left.min(f.left),
+        right: e.right.max(f.right),
+        top: e.top.min(f.top),
+        bottom: e.bottom.max(f.bottom),
     }
 }
 
@@ -194,10 +169,8 @@ fn group_at(table: &[u32], at: usize) -> Extent
     ensures { HoldsItems table.now at 64 result }
 {
     let mut e = extent_at(table, at);
-    let mut i: usize = 1;
-    while i < 64 {
+    for i in 1..64 {
         e = joined(e, extent_at(table, at + 2 * i));
-        i += 1;
     }
     e
 }
@@ -207,19 +180,10 @@ fn fill_groups(table: &mut [u32], items: usize, count: usize, place: usize)
     requires { (items + 128 * count ≤ place) × (place + 2 * count ≤ length table.old) }
     ensures { Filled (HoldsGroup table.old items) table.old table.new place count }
 {
-    let mut j = 0;
-    while j < count {
+    for j in 0..count {
         let e = group_at(table, items + 128 * j);
         put_extent(table, place + 2 * j, e);
-        j += 1;
     }
-}
-
-// The smaller of two counts.
-fn fewer(a: usize, b: usize) -> usize
-    ensures { (result ≤ a) × (result ≤ b) }
-{
-    if a < b { a } else { b }
 }
 
 // A ladder over `count` items whose extents stand from word `items` on. The extents of its groups and blocks are stored from word `free` on, as many as there
@@ -229,10 +193,10 @@ pub fn raise(table: &mut [u32], items: usize, count: usize, free: usize) -> Ladd
     ensures { RaisedOver table.old table.new items count free result }
 {
     let room = (table.len() - free) / 2;
-    let group_count = fewer(count / 64, room);
+    let group_count = room.min(count / 64);
     fill_groups(table, items, group_count, free);
     let blocks = free + 2 * group_count;
-    let block_count = fewer(group_count / 64, room - group_count);
+    let block_count = (room - group_count).min(group_count / 64);
     fill_groups(table, free, block_count, blocks);
     Ladder {
         items,
@@ -249,11 +213,13 @@ fn fill_chunks(points: &[u16], table: &mut [u32], count: usize, place: usize)
     requires { (64 * count ≤ length points.now / 2 - 1) × (place + 2 * count ≤ length table.old) }
     ensures { Filled (HoldsChunk points.now) table.old table.new place count }
 {
-    let mut j = 0;
-    while j < count {
-        let e = extent_of(points, 64 * j, 65);
+    for j in 0..count {
+        let chunk = Span {
+            first: 64 * j,
+            count: 65,
+        };
+        let e = extent_of(points, chunk);
         put_extent(table, place + 2 * j, e);
-        j += 1;
     }
 }
 
@@ -263,13 +229,9 @@ pub fn chunk(points: &[u16], table: &mut [u32], free: usize) -> Ladder
     requires { free ≤ length table.old }
     ensures { ChunkedOver points.now table.old table.new free result }
 {
-    let last = if points.len() < 2 {
-        0
-    } else {
-        points.len() / 2 - 1
-    };
+    let last = (points.len() / 2).saturating_sub(1);
     let room = (table.len() - free) / 3;
-    let item_count = fewer(last / 64, room);
+    let item_count = room.min(last / 64);
     fill_chunks(points, table, item_count, free);
     raise(table, free, item_count, free + 2 * item_count)
 }

@@ -5,7 +5,7 @@ ghost use Rattle.std.specs.Prelude.{◌≡◌, ◌*◌, ◌^◌, ◌≤◌, ◌<
 ghost use Rattle.extents.specs.Records.{RingsThere, Permutes, record_number, Filed};
 ghost use Rattle.filing.specs.Steps.{Rankable, Ranked, Measurable, MeasuredOne, Measured, ladder_end};
 
-use extents::Ladder;
+use extents::{Ladder, Span};
 use limits::SHORT_STRIDE;
 
 // The ladder over the rings and the ladder over the points.
@@ -36,7 +36,7 @@ fn measure_ring(points: &[u16], directory: &[u32], n: usize, i: usize, table: &m
     let r = table[2 * n + i] as usize;
     let first = directory[SHORT_STRIDE * r] as usize;
     let count = directory[SHORT_STRIDE * r + 1] as usize;
-    let extent = extents::extent_of(points, first, count);
+    let extent = extents::extent_of(points, Span { first, count });
     extents::put_extent(table, 2 * i, extent);
 }
 

@@ -1,19 +1,19 @@
 -- Any two directories that noting may leave are equal, and so are any two with the high parts of the sort keys: each word is given by its index. Assumes
 -- nothing.
 use mathlib.Core.Path.{◌≡◌, sym, ◌∙◌}
-use mathlib.Core.Bool.{Bool}
 use mathlib.Core.List.{List}
 use Prim.Native.Nat.{ℕ, zero, suc, ◌+◌, ◌*◌, ◌/◌, ◌<◌}
 use native.Mathlib.Nat.{add-zero}
 use native.Mathlib.Omega.{arith}
 use lib.ListN.{get_or}
+use Rattle.scope.specs.Stitching.{Line}
 use Rattle.scope.specs.Band.{sort_key}
 use Rattle.extents.specs.Records.{record_ring}
 use Rattle.extents.proofs.Determined.{one-directory, one-word-given}
 use Rattle.noting.specs.Noted.{Noted, HighNoted}
 
 module _ {points directory one two : List ℕ} {n : ℕ} where
-  pub one-noted : {by_size : Bool} → Noted points directory one n by_size → Noted points directory two n by_size → one ≡ two
+  pub one-noted : {note : Line → ℕ} → Noted points directory one n note → Noted points directory two n note → one ≡ two
   one-noted a b = one-directory directory n a.as_long b.as_long words (λ i past. a.rest-stays i past ∙ sym (b.rest-stays i past))
     where
       words : (r q : ℕ) → r < n → q < 4 → get_or one (4 * r + q) 0 ≡ get_or two (4 * r + q) 0

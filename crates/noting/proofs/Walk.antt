@@ -1,7 +1,6 @@
 -- The walk over the records: the first r are noted, and with the next one noted they are one more. A store in one record leaves the words of the others.
 -- Assumes nothing.
 use mathlib.Core.Path.{◌≡◌, refl, ap, ◌∙◌}
-use mathlib.Core.Bool.{Bool}
 use mathlib.Core.List.{List}
 use Prim.Native.Nat.{ℕ, zero, suc, ◌+◌, ◌-◌, ◌*◌, ◌≤◌, ◌<◌, ◌^◌}
 use native.Mathlib.Numerals.{add-one}
@@ -9,11 +8,12 @@ use native.Mathlib.Omega.{arith}
 use borrow.Author.Count.{below_none, below_more}
 use lib.ListN.{length, get_or, set, length-set}
 use lib.Seq.{get_or-set_same, get_or-set_other}
+use Rattle.scope.specs.Stitching.{Line}
 use Rattle.scope.specs.Pairs.{sum_from}
 use Rattle.laws.proofs.Sums.{sum-last}
 use Rattle.extents.specs.Points.{ring_in}
 use Rattle.extents.specs.Records.{record_count}
-use Rattle.noting.specs.Noted.{start_of, counted_ring, note_of, Countable, Noted}
+use Rattle.noting.specs.Noted.{start_of, counted_ring, Countable, Noted}
 use Rattle.noting.specs.Step.{RecordNotable, record_noted, NotedOne}
 use Rattle.noting.proofs.Rings.{ring-low}
 
@@ -81,15 +81,15 @@ module _ (directory : List ℕ) (r first note : ℕ) (there : 4 * r + 4 ≤ leng
 -- ---- the walk
 
 -- the first r records are noted, and the next ring begins at point first
-pub record Walked (points start : List ℕ) (n : ℕ) (by_size : Bool) (directory : List ℕ) (first r : ℕ) : Type 0 where
+pub record Walked (points start : List ℕ) (n : ℕ) (note : Line → ℕ) (directory : List ℕ) (first r : ℕ) : Type 0 where
   pub countable : Countable points start n
   pub within : r ≤ n
   pub reached : first ≡ start_of start r
-  pub so_far : Noted points start directory r by_size
+  pub so_far : Noted points start directory r note
 
-pub walked-begin : {points start : List ℕ} {n : ℕ} (by_size : Bool) → Countable points start n → Walked points start n by_size start 0 0
+pub walked-begin : {points start : List ℕ} {n : ℕ} (note : Line → ℕ) → Countable points start n → Walked points start n note start 0 0
 unfolding start_of sum_from
-walked-begin by_size c =
+walked-begin note c =
     record {
       countable = c;
       within = omega arith;
@@ -105,8 +105,8 @@ walked-begin by_size c =
           };
     }
 
-module _ {points start : List ℕ} {n : ℕ} {by_size : Bool} {directory : List ℕ} {first r : ℕ} (w : Walked points start n by_size directory first r) where
-  pub walked_end : n ≤ r → Noted points start directory n by_size
+module _ {points start : List ℕ} {n : ℕ} {note : Line → ℕ} {directory : List ℕ} {first r : ℕ} (w : Walked points start n note directory first r) where
+  pub walked_end : n ≤ r → Noted points start directory n note
   walked_end h = let all : r ≡ n = omega arith in rw all at w.so_far
 
   module _ (more : r < n) where
@@ -136,31 +136,31 @@ module _ {points start : List ℕ} {n : ℕ} {by_size : Bool} {directory : List 
         })
 
     -- and with it one record more is noted
-    module _ {count : ℕ} {directory' : List ℕ} (o : NotedOne points directory directory' r first by_size count) where
-      abbrev note : ℕ
-      note = note_of by_size (ring_in points first (record_count directory r))
+    module _ {count : ℕ} {directory' : List ℕ} (o : NotedOne points directory directory' r first note count) where
+      abbrev word : ℕ
+      word = note (ring_in points first (record_count directory r))
 
       there : 4 * r + 4 ≤ length directory
       there = omega (arith, w.so_far.as_long, w.countable.records-there)
 
       -- a word that the record does not store is as it was
       kept : (i : ℕ) → (i ≡ 4 * r → ⊥) → (i ≡ 4 * r + 2 → ⊥) → (i ≡ 4 * r + 3 → ⊥) → get_or directory' i 0 ≡ get_or directory i 0
-      kept i p q s = rw o.stored (others-stay directory r first note there i p q s)
+      kept i p q s = rw o.stored (others-stay directory r first word there i p q s)
 
-      note-is-next : note ≡ note_of by_size (counted_ring points start r)
+      note-is-next : word ≡ note (counted_ring points start r)
       unfolding counted_ring
       note-is-next = rw (count-stays, w.reached)
 
-      next-noted : Noted points start directory' (r + 1) by_size
+      next-noted : Noted points start directory' (r + 1) note
       unfolding record_count
       next-noted =
           let before = w.so_far in
           record {
-            as_long = rw o.stored (noted-long directory r first note there ∙ before.as_long);
+            as_long = rw o.stored (noted-long directory r first word there ∙ before.as_long);
             first-is =
                 below_more _ r
                 (λ k h. kept (4 * k) (λ e. omega arith) (λ e. omega arith) (λ e. omega arith) ∙ before.first-is k h)
-                (rw o.stored (first-noted directory r first note there ∙ w.reached));
+                (rw o.stored (first-noted directory r first word there ∙ w.reached));
             count-is =
                 below_more _ r
                 (λ k h. kept (4 * k + 1) (λ e. omega arith) (λ e. omega arith) (λ e. omega arith) ∙ before.count-is k h)
@@ -168,11 +168,11 @@ module _ {points start : List ℕ} {n : ℕ} {by_size : Bool} {directory : List 
             note-is =
                 below_more _ r
                 (λ k h. kept (4 * k + 2) (λ e. omega arith) (λ e. omega arith) (λ e. omega arith) ∙ before.note-is k h)
-                (rw o.stored (note-noted directory r first note there ∙ note-is-next));
+                (rw o.stored (note-noted directory r first word there ∙ note-is-next));
             number_is =
                 below_more _ r
                 (λ k h. kept (4 * k + 3) (λ e. omega arith) (λ e. omega arith) (λ e. omega arith) ∙ before.number_is k h)
-                (rw o.stored (number-noted directory r first note there));
+                (rw o.stored (number-noted directory r first word there));
             rest-stays = λ i h. kept i (λ e. omega arith) (λ e. omega arith) (λ e. omega arith) ∙ before.rest-stays i (omega arith);
           }
 
@@ -180,7 +180,7 @@ module _ {points start : List ℕ} {n : ℕ} {by_size : Bool} {directory : List 
       pub walked-few : first + count < 2 ^ 32
       walked-few = omega (arith, o.counted, count-stays, w.reached, end-within start r n more, w.countable.points-few)
 
-      pub walked_next : Walked points start n by_size directory' (first + count) (r + 1)
+      pub walked_next : Walked points start n note directory' (first + count) (r + 1)
       walked_next =
           record {
             countable = w.countable;

@@ -29,11 +29,12 @@ pub record Countable (points directory : List ℕ) (n : ℕ) : Type 0 where
   pub counts-within : (r : ℕ) → r < n → (1 ≤ record_count directory r) × (record_count directory r ≤ point_limit)
   pub coordinates-within : (i : ℕ) → i < 2 * start_of directory n → get_or points i 0 ≤ coordinate_limit
 
-pub record Noted (points directory directory' : List ℕ) (n : ℕ) (by_size : Bool) : Type 0 where
+-- the records once they are noted, by what is noted of a ring
+pub record Noted (points directory directory' : List ℕ) (n : ℕ) (note : Line → ℕ) : Type 0 where
   pub as_long : length directory' ≡ length directory
   pub first-is : (r : ℕ) → r < n → get_or directory' (4 * r) 0 ≡ start_of directory r
   pub count-is : (r : ℕ) → r < n → get_or directory' (4 * r + 1) 0 ≡ record_count directory r
-  pub note-is : (r : ℕ) → r < n → get_or directory' (4 * r + 2) 0 ≡ note_of by_size (counted_ring points directory r)
+  pub note-is : (r : ℕ) → r < n → get_or directory' (4 * r + 2) 0 ≡ note (counted_ring points directory r)
   pub number_is : (r : ℕ) → r < n → get_or directory' (4 * r + 3) 0 ≡ r
   pub rest-stays : (i : ℕ) → 4 * n ≤ i → get_or directory' i 0 ≡ get_or directory i 0
 

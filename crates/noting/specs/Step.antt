@@ -1,12 +1,12 @@
 -- One ring, noted: what is asked of its words and of its record, and what the record's words become. Assumes nothing.
-use Rattle.std.specs.Prelude.{◌≡◌, Bool, false, List, ℕ, ◌+◌, ◌*◌, ◌/◌, ◌^◌, ◌≤◌, ◌<◌, length, set}
+use Rattle.std.specs.Prelude.{◌≡◌, false, List, ℕ, ◌+◌, ◌*◌, ◌/◌, ◌^◌, ◌≤◌, ◌<◌, length, set}
 use Rattle.scope.specs.Limits.{coordinate_limit, point_limit}
+use Rattle.scope.specs.Stitching.{Line}
 use Rattle.scope.specs.Area.{any_above}
 use Rattle.scope.specs.Band.{sort_key}
 use Rattle.scope.specs.GeoJson.{words_in}
 use Rattle.extents.specs.Points.{ring_in}
 use Rattle.extents.specs.Records.{record_first, record_count, record_ring}
-use Rattle.noting.specs.Noted.{note_of}
 
 -- the points of a ring are there, and within the limits
 pub record RingWithin (points : List ℕ) (first count : ℕ) : Type 0 where
@@ -27,9 +27,9 @@ unfoldable pub record_noted : List ℕ → ℕ → ℕ → ℕ → List ℕ
 record_noted directory r first note = set (set (set directory (4 * r) first) (4 * r + 2) note) (4 * r + 3) r
 
 -- the count of the record, and the directory with the record noted
-pub record NotedOne (points directory directory' : List ℕ) (r first : ℕ) (by_size : Bool) (count : ℕ) : Type 0 where
+pub record NotedOne (points directory directory' : List ℕ) (r first : ℕ) (note : Line → ℕ) (count : ℕ) : Type 0 where
   pub counted : count ≡ record_count directory r
-  pub stored : directory' ≡ record_noted directory r first (note_of by_size (ring_in points first (record_count directory r)))
+  pub stored : directory' ≡ record_noted directory r first (note (ring_in points first (record_count directory r)))
 
 -- record r is there, and so is its ring
 pub record RecordMeasurable (points directory : List ℕ) (r : ℕ) : Type 0 where

@@ -15,7 +15,7 @@ ghost use Rattle.owners.specs.Once.{Filed-prop};
 ghost use Rattle.owners.specs.Stays.{class-stays, owner-stays};
 ghost use Rattle.owners.specs.Stored.{Beside, Stored};
 
-use extents::{Extent, Ladder};
+use extents::{Extent, Ladder, Span};
 use filing::Filing;
 use limits::{HOLE, NO_OWNER, POLYGON, SHORT_STRIDE};
 
@@ -134,10 +134,11 @@ impl<'a> Search<'a> {
         let count = self.directory[SHORT_STRIDE * at + 1] as usize;
         taking::takes(
             self.points,
-            outer_first,
-            outer_count,
-            first,
-            count,
+            Span {
+                first: outer_first,
+                count: outer_count,
+            },
+            Span { first, count },
             self.table,
             self.filing.chunks,
         )

@@ -2,7 +2,6 @@
 -- third words the order sorted so, and what stores third words alone the order that it found. Of such a directory the rings are those of the order, they are
 -- there, and its numbers permute. Assumes nothing.
 use mathlib.Core.Path.{◌≡◌, refl, sym, ◌∙◌, ap, ap₂, subst}
-use mathlib.Core.Bool.{Bool}
 use mathlib.Core.List.{List, [], ◌∷◌, ◌++◌, map}
 use Prim.Native.Nat.{ℕ, zero, suc, ◌+◌, ◌-◌, ◌*◌, ◌/◌, ◌%◌, ◌≤◌, ◌<◌}
 use native.Mathlib.Omega.{arith}
@@ -18,7 +17,7 @@ use Rattle.extents.specs.declared.Ladder.{Ladder}
 use Rattle.sorting.specs.Entries.{Entry, entries, entry_words, sorted_entries}
 use Rattle.sorting.proofs.Words.{words-length, entries-of-words}
 use Rattle.sorting.proofs.TwoPasses.{sort_by, sorted-map-by}
-use Rattle.noting.specs.Noted.{start_of, counted_ring, note_of, Countable, Noted, Measurable, HighNoted}
+use Rattle.noting.specs.Noted.{start_of, counted_ring, Countable, Noted, Measurable, HighNoted}
 use Rattle.noting.proofs.Walk.{end-within}
 use Rattle.owners.specs.Owned.{Classed}
 use Rattle.regions.specs.Regions.{counted_rings, sorted_first}
@@ -78,7 +77,7 @@ module _ {points start : List ℕ} {n : ℕ} {order : List Numbered} {directory 
       ∙ a.order-of.sums_kept w
 
 -- noting leaves the order by number
-module _ {points start directory : List ℕ} {n : ℕ} {by_size : Bool} (there : 4 * n ≤ length start) (noted : Noted points start directory n by_size) where
+module _ {points start directory : List ℕ} {n : ℕ} {note : Line → ℕ} (there : 4 * n ≤ length start) (noted : Noted points start directory n note) where
   pub noted-arranged : Arranged points start n (numbered_from 0 (counted_rings points start 0 n)) directory
   unfolding record_first record_count record_number
   noted-arranged = record {
@@ -91,9 +90,9 @@ module _ {points start directory : List ℕ} {n : ℕ} {by_size : Bool} (there :
     rest-stays = noted.rest-stays;
   }
 
-  pub noted-notes : (r : ℕ) → r < n → record_class directory r ≡ note_of by_size (get_or (numbered_from 0 (counted_rings points start 0 n)) r nobody).ring
+  pub noted-notes : (r : ℕ) → r < n → record_class directory r ≡ note (get_or (numbered_from 0 (counted_rings points start 0 n)) r nobody).ring
   unfolding record_class
-  noted-notes r h = noted.note-is r h ∙ ap (λ (m : Numbered). note_of by_size m.ring) (sym (numbered-at points start n r h))
+  noted-notes r h = noted.note-is r h ∙ ap (λ (m : Numbered). note m.ring) (sym (numbered-at points start n r h))
 
 -- sorting by a key that the third words hold leaves the order sorted by it
 module _ {points start : List ℕ} {n : ℕ} {order : List Numbered} {directory : List ℕ} (key : Numbered → ℕ)

@@ -127,7 +127,7 @@ module _ {points start : List ℕ} {n : ℕ} {order : List Numbered} {directory 
       ∙ ap (λ (ws : List ℕ). written ws start) (sym (records-as-words all 0 order fates))
 
 -- a contour: the order by number, and classes by area
-module _ {points start noted : List ℕ} {n : ℕ} (there : 4 * n ≤ length start) (n₁ : Noted points start noted n false) where
+module _ {points start noted : List ℕ} {n : ℕ} (there : 4 * n ≤ length start) (n₁ : Noted points start noted n (note_of false)) where
   counted-ring : (r : ℕ) → (get_or (numbered_from 0 (counted_rings points start 0 n)) r nobody).ring ≡ get_or (counted_rings points start 0 n) r []
   counted-ring r = rw (rings-numbered 0 (counted_rings points start 0 n)) at (sym (ring-in-order (numbered_from 0 (counted_rings points start 0 n)) r))
 
@@ -176,7 +176,7 @@ abbrev high_key : Numbered → ℕ
 high_key m = sort_key m.ring / 4294967296
 
 module _ {points start noted low : List ℕ} {n : ℕ}
-    (there : 4 * n ≤ length start) (n₁ : Noted points start noted n true) (n₂ : low ≡ sorted_first noted n) where
+    (there : 4 * n ≤ length start) (n₁ : Noted points start noted n (note_of true)) (n₂ : low ≡ sorted_first noted n) where
   -- noted and sorted, the records are by the low parts
   pub low-arranged : Arranged points start n (sort_by low_key (numbered_from 0 (counted_rings points start 0 n))) low
   unfolding note_of

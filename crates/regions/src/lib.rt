@@ -8,7 +8,7 @@ ghost use Rattle.regions.specs.Regions.{counted_rings, sorted_first, contour_by,
 
 use filing::file;
 use limits::SHORT_STRIDE;
-use noting::{note_high, note_rings};
+use noting::{Class, Size, note_high, note_rings};
 use owners::{class_all, own_all};
 use sorting::sort_records;
 
@@ -18,7 +18,7 @@ pub fn own_contour(points: &[u16], directory: &mut [u32], n: usize, scratch: &mu
     requires { Workable points.now directory.old scratch.old n }
     ensures { directory.new ≡ written (contour_by short_of (counted_rings points.now directory.old 0 n)) directory.old }
 {
-    note_rings(points, directory, n, false);
+    note_rings::<Class>(points, directory, n);
     let filing = file(points, directory, n, scratch);
     own_all(points, directory, scratch, n, filing);
 }
@@ -38,7 +38,7 @@ pub fn own_band(points: &[u16], directory: &mut [u32], n: usize, scratch: &mut [
     requires { Workable points.now directory.old scratch.old n }
     ensures { directory.new ≡ written (sorted_by short_of (counted_rings points.now directory.old 0 n)) directory.old }
 {
-    note_rings(points, directory, n, true);
+    note_rings::<Size>(points, directory, n);
     sort_first(directory, n, scratch);
     note_high(points, directory, n);
     sort_first(directory, n, scratch);

@@ -3,7 +3,7 @@
 use mathlib.Core.Path.{◌≡◌, refl, sym, ap, subst, ◌∙◌}
 use mathlib.Core.Bool.{Bool, true, false, xor, cond}
 use mathlib.Core.List.{List}
-use Prim.Native.Nat.{ℕ, zero, suc, ◌+◌, ◌*◌, ◌-◌, ◌/◌, ◌<◌, ◌≤◌}
+use Prim.Native.Nat.{ℕ, zero, suc, max, ◌+◌, ◌*◌, ◌-◌, ◌/◌, ◌<◌, ◌≤◌}
 use native.Mathlib.Omega.{arith}
 use Rattle.scope.specs.Cells.{Point}
 use Rattle.scope.specs.Containment.{Answer, outside, boundary, inside, on_pair, flips, signed}
@@ -119,7 +119,7 @@ none_passed h =
 
 -- the pairs that begin before the first chunk that is not apart are passed over
 pub before-near : {table : List ℕ} {chunks : Ladder} {p : Point} {k last near r : ℕ} → NextNear table chunks (k / 64) (ray_from p) near →
-    k ≤ r → r ≤ last → r ≤ 64 * near → PassedOver table chunks p k last r
+    k ≤ r → r ≤ last → r ≤ max k (64 * near) → PassedOver table chunks p k last r
 before-near found h g e =
     record {
       not-before = h;

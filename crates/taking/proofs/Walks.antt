@@ -3,11 +3,10 @@
 use mathlib.Core.Path.{◌≡◌, refl, sym, ap, ◌∙◌}
 use mathlib.Core.Bool.{Bool, true, false, xor, cond}
 use mathlib.Core.List.{List, ◌∷◌}
-use Prim.Native.Nat.{ℕ, zero, suc, ◌+◌, ◌*◌, ◌-◌, ◌<◌, ◌≤◌}
+use Prim.Native.Nat.{ℕ, zero, suc, ◌+◌, ◌-◌, ◌<◌, ◌≤◌}
 use native.Mathlib.Nat.{add-zero}
 use native.Mathlib.Numerals.{add-one}
 use native.Mathlib.Omega.{arith}
-use lib.ListN.{get_or}
 use Rattle.scope.specs.Cells.{Point}
 use Rattle.scope.specs.Area.{last_of}
 use Rattle.scope.specs.Containment.{Answer, outside, boundary, inside, on_pair, flips, signed, walk, point_against, decide, ring_against}
@@ -26,14 +25,6 @@ xor-false : (t : Bool) → xor t false ≡ t
 unfolding xor
 xor-false true = refl
 xor-false false = refl
-
--- the point after the one of number k, by its words
-pub point-after : (points : List ℕ) (k : ℕ) → point_in points (suc k) ≡ record { x = get_or points (2 * k + 2) 0; y = get_or points (2 * k + 3) 0 }
-unfolding point_in
-point-after points k =
-    let e : 2 * suc k ≡ 2 * k + 2 = omega arith in
-    let f : 2 * suc k + 1 ≡ 2 * k + 3 = omega arith in
-    rw (f, e)
 
 module _ (points : List ℕ) (n : ℕ) (p : Point) (k : ℕ) (within : Bool) where
   -- no pair is left
@@ -54,48 +45,34 @@ module _ (points : List ℕ) (n : ℕ) (p : Point) (k : ℕ) (within : Bool) whe
       rw e
 
 -- no pair before k holds the point p, and `within` is the sign so far
-pub record Along (points : List ℕ) (from to : ℕ) (p : Point) (start : Bool) (ay : ℕ) (within : Bool) (k : ℕ) : Type 0 where
-  pub not-past : k ≤ to
-  pub row : ay ≡ get_or points (2 * k + 1) 0
+pub record Along (points : List ℕ) (from to : ℕ) (p : Point) (start within : Bool) (k : ℕ) : Type 0 where
   pub left : walk_to points from to p start ≡ walk_to points k to p within
 
-module _ {points : List ℕ} {from to : ℕ} {p : Point} {start : Bool} {ay : ℕ} {within : Bool} {k : ℕ} (s : Along points from to p start ay within k) (h : k < to) where
-  abbrev pair-from : Point
-  pair-from = record { x = get_or points (2 * k) 0; y = ay }
-
-  abbrev pair-to : Point
-  pair-to = record { x = get_or points (2 * k + 2) 0; y = get_or points (2 * k + 3) 0 }
-
-  pair-next : walk_to points from to p start
-      ≡ cond (on_pair pair-from pair-to p) boundary (walk_to points (k + 1) to p (xor (flips pair-from pair-to p) within))
-  unfolding point_in
-  pair-next = s.left ∙ walk-next points to p k within h ∙ rw (add-one k, s.row, point-after) refl
+module _ {points : List ℕ} {from to : ℕ} {p : Point} {start within : Bool} {k : ℕ} (s : Along points from to p start within k) (h : k < to) {a b : Point} (a-is : a ≡ point_in points k) (b-is : b ≡ point_in points (k + 1)) where
+  pair-next : walk_to points from to p start ≡ cond (on_pair a b p) boundary (walk_to points (k + 1) to p (xor (flips a b p) within))
+  pair-next = s.left ∙ walk-next points to p k within h ∙ rw (a-is, b-is, add-one k) refl
 
   -- a pair that holds the point answers at once
-  pub along-held : {held : Bool} → held ≡ on_pair pair-from pair-to p → held ≡ true → walk_to points from to p start ≡ boundary
+  pub along-held : {held : Bool} → held ≡ on_pair a b p → held ≡ true → walk_to points from to p start ≡ boundary
   along-held e f = pair-next ∙ rw (← e, f) refl
 
-  next : (turned : Bool) → on_pair pair-from pair-to p ≡ false → flips pair-from pair-to p ≡ turned →
-      Along points from to p start (get_or points (2 * k + 3) 0) (xor turned within) (k + 1)
-  next turned e f =
-      let r : 2 * (k + 1) + 1 ≡ 2 * k + 3 = omega arith in
-      record { not-past = omega arith; row = rw r refl; left = pair-next ∙ rw (e, f) refl }
+  next : (turned : Bool) → on_pair a b p ≡ false → flips a b p ≡ turned → Along points from to p start (xor turned within) (k + 1)
+  next turned e f = record { left = pair-next ∙ rw (e, f) refl }
 
   -- a pair that does not hold it is passed
-  pub along-next : {held turned : Bool} → held ≡ on_pair pair-from pair-to p → held ≡ false → turned ≡ flips pair-from pair-to p →
-      Along points from to p start (get_or points (2 * k + 3) 0) (xor turned within) (k + 1)
+  pub along-next : {held turned : Bool} → held ≡ on_pair a b p → held ≡ false → turned ≡ flips a b p →
+      Along points from to p start (xor turned within) (k + 1)
   along-next e f g = next _ (sym e ∙ f) (sym g)
 
   -- and so is a pair that the point's row is beside
-  pub along-beside : {aside : Bool} → aside ≡ beside ay (get_or points (2 * k + 3) 0) p.y → aside ≡ true →
-      Along points from to p start (get_or points (2 * k + 3) 0) within (k + 1)
+  pub along-beside : {aside : Bool} → aside ≡ beside a.y b.y p.y → aside ≡ true → Along points from to p start within (k + 1)
   along-beside e f =
-      let over = passed_over pair-from pair-to p (sym e ∙ f) in
+      let over = passed_over a b p (sym e ∙ f) in
       rw false-xor at (next false over.0 over.1)
 
 -- no pair is left
-pub along-end : {points : List ℕ} {from to : ℕ} {p : Point} {start : Bool} {ay : ℕ} {within : Bool} {k : ℕ} →
-    Along points from to p start ay within k → to ≤ k → walk_to points from to p start ≡ signed within
+pub along-end : {points : List ℕ} {from to : ℕ} {p : Point} {start within : Bool} {k : ℕ} →
+    Along points from to p start within k → to ≤ k → walk_to points from to p start ≡ signed within
 along-end s h = s.left ∙ walk_end _ _ _ _ _ h
 
 -- the last point of a ring
@@ -134,7 +111,6 @@ module _ (points : List ℕ) (first count : ℕ) (p : Point) (some : 1 ≤ count
 
 -- every vertex before v of the tested ring lies on a pair of the outer one
 pub record Passed (outer tested : Line) (points : List ℕ) (end v : ℕ) : Type 0 where
-  pub not-past : v ≤ end
   pub left : ring_against outer tested ≡ ring_against outer (ring_in points v (end - v))
 
 module _ {outer tested : Line} {points : List ℕ} {end v : ℕ} (s : Passed outer tested points end v) where
@@ -146,16 +122,17 @@ module _ {outer tested : Line} {points : List ℕ} {end v : ℕ} (s : Passed out
       let e : end - v ≡ suc (end - (v + 1)) = omega arith in
       s.left ∙ rw (e, add-one v) refl
 
-  -- a vertex on a pair is passed
-  pub passed-next : v < end → point_against outer (point_in points v) ≡ boundary → Passed outer tested points end (v + 1)
-  unfolding decide
-  passed-next h e = record { not-past = omega arith; left = vertex-next h ∙ rw e refl }
+  module _ (h : v < end) {p : Point} (is : p ≡ point_in points v) where
+    -- a vertex on a pair is passed
+    pub passed-next : point_against outer p ≡ boundary → Passed outer tested points end (v + 1)
+    unfolding decide
+    passed-next e = record { left = vertex-next h ∙ rw (← is, e) refl }
 
-  -- a vertex on no pair decides
-  pub decided : v < end → (sign : Bool) → point_against outer (point_in points v) ≡ signed sign → ring_against outer tested ≡ signed sign
-  unfolding decide signed
-  decided h true e = vertex-next h ∙ rw e refl
-  decided h false e = vertex-next h ∙ rw e refl
+    -- a vertex on no pair decides
+    pub decided : (sign : Bool) → point_against outer p ≡ signed sign → ring_against outer tested ≡ signed sign
+    unfolding decide signed
+    decided true e = vertex-next h ∙ rw (← is, e) refl
+    decided false e = vertex-next h ∙ rw (← is, e) refl
 
   -- no vertex decides
   pub none-decided : end ≤ v → ring_against outer tested ≡ boundary

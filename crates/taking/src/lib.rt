@@ -1,16 +1,26 @@
 // Whether a ring takes another, which is that its answer for it is not -1, over the points of all rings in packed order.
 #![tactic(auto)]
 
-ghost use Rattle.std.specs.Prelude.{◌≡◌, ◌+◌, ◌*◌, ◌≤◌, min, length};
-ghost use Rattle.scope.specs.Containment.{point_against};
+ghost use Rattle.std.specs.Prelude.{◌≡◌, ◌+◌, ◌*◌, ◌≤◌, length};
+ghost use Rattle.scope.specs.Containment.{signed, point_against};
 ghost use Rattle.scope.specs.Contour.{takes};
+ghost use Rattle.area.specs.Points.{meant};
 ghost use Rattle.extents.specs.Points.{ring_in, RingThere};
 ghost use Rattle.extents.specs.Ladders.{Raised, Chunked};
 ghost use Rattle.taking.specs.Places.{place_of, walk_to, beside};
 ghost use Rattle.taking.specs.Stretches.{StretchThere, PassedOver, first_items, StopsAt};
 
-use area::{flips, on_pair};
-use extents::{Extent, Ladder, next_near};
+use area::{Point, flips, on_pair, point_at};
+use extents::{Extent, Ladder, Span, next_near};
+
+// The points of all rings in packed order, and a ladder over them in a table.
+#[derive(Clone, Copy)]
+struct Packed<'a> {
+    points: &'a [u16],
+    table: &'a [u32],
+    chunks: Ladder,
+    ghost chunked: { Chunked points.now table.now chunks },
+}
 
 // Where a point lies to a ring, or to some of its pairs.
 #[derive(Clone, Copy)]
@@ -24,95 +34,80 @@ pub enum Place {
 }
 
 // Whether both rows lie before the row y, or both after it.
+#[tactic(auto, unfolding(crate::specs::Places::beside))]
 fn beside(ay: u16, by: u16, y: u16) -> bool
     ensures { result ≡ beside ay by y }
 {
     (ay < y && by < y) || (y < ay && y < by)
 }
 
-// The point (x, y) against the pairs of neighbours from the point of number `from` to that of number `to`, with the sign `inside` so far. A pair beside the
-// point's row is passed over.
-pub fn along(points: &[u16], from: usize, to: usize, x: u16, y: u16, inside: bool) -> Place
-    requires { (from ≤ to) × (2 * to + 2 ≤ length points.now) }
-    ensures { result ≡ place_of (walk_to points.now from to (record { x = x; y = y }) inside) }
+// Where a point on no pair lies, by the sign.
+#[tactic(auto, unfolding(crate::specs::Places::place_of, scope::specs::Containment::signed))]
+fn by_sign(within: bool) -> Place
+    ensures { result ≡ place_of (signed within) }
 {
-    let mut within = inside;
-    let mut ay = points[2 * from + 1];
-    let mut k = from;
-    while k < to {
-        let by = points[2 * k + 3];
-        if beside(ay, by, y) {
-            ay = by;
-            k += 1;
-            continue;
-        }
-        let ax = points[2 * k];
-        let bx = points[2 * k + 2];
-        if on_pair(ax, ay, bx, by, x, y) {
-            return Place::Boundary;
-        }
-        within = flips(ax, ay, bx, by, x, y) != within;
-        ay = by;
-        k += 1;
-    }
     if within {
-        return Place::Inside;
+        Place::Inside
+    } else {
+        Place::Outside
     }
-    Place::Outside
 }
 
-// The smaller of two numbers.
-fn least(a: usize, b: usize) -> usize
-    ensures { result ≡ min a b }
+// The point p against the pairs of neighbours from the point of number `from` to that of number `to`, with the sign `inside` so far. A pair beside the point's
+// row is passed over.
+pub fn along(points: &[u16], from: usize, to: usize, p: Point, inside: bool) -> Place
+    requires { (from ≤ to) × (2 * to + 2 ≤ length points.now) }
+    ensures { result ≡ place_of (walk_to points.now from to (meant p) inside) }
 {
-    if a < b {
-        return a;
+    let mut within = inside;
+    for k in from..to {
+        let a = point_at(points, k);
+        let b = point_at(points, k + 1);
+        if beside(a.y, b.y, p.y) {
+            continue;
+        }
+        if on_pair(a, b, p) {
+            return Place::Boundary;
+        }
+        within = flips(a, b, p) != within;
     }
-    b
+    by_sign(within)
 }
 
 // A ladder's first items, and its groups and blocks that are whole among them.
+#[tactic(auto, unfolding(crate::specs::Stretches::first_items))]
 fn first_items(ladder: Ladder, count: usize) -> Ladder
     ensures { result ≡ first_items ladder count }
 {
-    let item_count = least(ladder.item_count, count);
-    let group_count = least(ladder.group_count, item_count / 64);
-    let block_count = least(ladder.block_count, group_count / 64);
+    let item_count = ladder.item_count.min(count);
+    let group_count = ladder.group_count.min(item_count / 64);
+    let block_count = ladder.block_count.min(group_count / 64);
     Ladder {
-        items: ladder.items,
-        item_count: item_count,
-        groups: ladder.groups,
-        group_count: group_count,
-        blocks: ladder.blocks,
-        block_count: block_count,
+        item_count,
+        group_count,
+        block_count,
+        ..ladder
     }
 }
 
-// The point up to which every chunk from that of point k on is apart from what lies right of (x, y) in its row: k itself where its chunk is not, and at most
-// `last`.
-fn near_from(table: &[u32], chunks: Ladder, k: usize, last: usize, x: u16, y: u16) -> usize
+// The point up to which every chunk from that of point k on is apart from what lies right of p in its row: k itself where its chunk is not, and at most `last`.
+fn near_from(table: &[u32], chunks: Ladder, k: usize, last: usize, p: Point) -> usize
     requires { Raised table.now chunks × (k ≤ last) }
-    ensures { PassedOver table.now chunks (record { x = x; y = y }) k last result }
+    ensures { PassedOver table.now chunks (meant p) k last result }
 {
     let chunk = k / 64;
-    let count = chunks.item_count;
-    if count <= chunk {
+    if chunks.item_count <= chunk {
         return k;
     }
     let ray = Extent {
-        left: x,
+        left: p.x,
         right: 65535,
-        top: y,
-        bottom: y,
+        top: p.y,
+        bottom: p.y,
     };
-    let near = next_near(table, chunks, chunk, ray);
-    if near <= chunk {
-        return k;
-    }
-    if last / 64 < near {
-        return last;
-    }
-    64 * near
+    next_near(table, chunks, chunk, ray)
+        .saturating_mul(64)
+        .clamp(k, last)
 }
 
 // The end of the chunk of point k, at most `last`.
@@ -120,94 +115,65 @@ fn stop_after(k: usize, last: usize) -> usize
     requires { k ≤ last }
     ensures { StopsAt k last result }
 {
-    let left = 64 - k % 64;
-    if left < last - k {
-        return k + left;
-    }
-    last
+    k + (64 - k % 64).min(last - k)
 }
 
-// As `along`, where the ladder passes over the chunks that are apart from what lies right of the point in its row.
-fn along_near(
-    points: &[u16],
-    from: usize,
-    last: usize,
-    x: u16,
-    y: u16,
-    inside: bool,
-    table: &[u32],
-    chunks: Ladder,
-) -> Place
-    requires { StretchThere points.now from last × Chunked points.now table.now chunks }
-    ensures { result ≡ place_of (walk_to points.now from last (record { x = x; y = y }) inside) }
-{
-    let ladder = first_items(chunks, last / 64 + 1);
-    let mut within = inside;
-    let mut k = from;
-    while k < last {
-        let near = near_from(table, ladder, k, last, x, y);
-        k = stop_after(near, last);
-        let place = along(points, near, k, x, y, within);
-        match place {
-            Place::Boundary => return Place::Boundary,
-            Place::Inside => within = true,
-            Place::Outside => within = false,
+impl Packed<'_> {
+    // As `along`, where the ladder passes over the chunks that are apart from what lies right of the point in its row.
+    fn along_near(&self, from: usize, last: usize, p: Point, inside: bool) -> Place
+        requires { StretchThere self.now.points.now from last }
+        ensures { result ≡ place_of (walk_to self.now.points.now from last (meant p) inside) }
+    {
+        let ladder = first_items(self.chunks, last / 64 + 1);
+        let mut within = inside;
+        let mut k = from;
+        // Kept: a turn goes on behind the chunks that are passed over and the one that is walked, which no range counts.
+        while k < last {
+            let near = near_from(self.table, ladder, k, last, p);
+            k = stop_after(near, last);
+            let place = along(self.points, near, k, p, within);
+            match place {
+                Place::Boundary => return Place::Boundary,
+                Place::Inside => within = true,
+                Place::Outside => within = false,
+            }
         }
+        by_sign(within)
     }
-    if within {
-        return Place::Inside;
-    }
-    Place::Outside
-}
 
-// The point (x, y) against the ring of `count` points from the point of number `first` on. A ring of few points is walked straight.
-fn against(
-    points: &[u16],
-    first: usize,
-    count: usize,
-    x: u16,
-    y: u16,
-    table: &[u32],
-    chunks: Ladder,
-) -> Place
-    requires { RingThere points.now first count × Chunked points.now table.now chunks }
-    ensures { result ≡ place_of (point_against (ring_in points.now first count) (record { x = x; y = y })) }
-{
-    let last = first + (count - 1);
-    let ax = points[2 * last];
-    let ay = points[2 * last + 1];
-    let bx = points[2 * first];
-    let by = points[2 * first + 1];
-    if on_pair(ax, ay, bx, by, x, y) {
-        return Place::Boundary;
+    // The point p against a ring. A ring of few points is walked straight.
+    fn against(&self, ring: Span, p: Point) -> Place
+        requires { RingThere self.now.points.now ring.first ring.count }
+        ensures { result ≡ place_of (point_against (ring_in self.now.points.now ring.first ring.count) (meant p)) }
+    {
+        let Span { first, count } = ring;
+        let last = first + (count - 1);
+        let a = point_at(self.points, last);
+        let b = point_at(self.points, first);
+        if on_pair(a, b, p) {
+            return Place::Boundary;
+        }
+        let inside = flips(a, b, p);
+        if count <= 64 {
+            return along(self.points, first, last, p, inside);
+        }
+        self.along_near(first, last, p, inside)
     }
-    let inside = flips(ax, ay, bx, by, x, y);
-    if count <= 64 {
-        return along(points, first, last, x, y, inside);
-    }
-    along_near(points, first, last, x, y, inside, table, chunks)
 }
 
 // Whether the outer ring takes the tested ring. The ladder passes over points of the outer ring that can neither hold a vertex nor flip its sign.
-pub fn takes(
-    points: &[u16],
-    outer_first: usize,
-    outer_count: usize,
-    first: usize,
-    count: usize,
-    table: &[u32],
-    chunks: Ladder,
-) -> bool
-    requires { RingThere points.now outer_first outer_count × RingThere points.now first count × Chunked points.now table.now chunks }
-    ensures { result ≡ takes (ring_in points.now outer_first outer_count) (ring_in points.now first count) }
+pub fn takes(points: &[u16], outer: Span, tested: Span, table: &[u32], chunks: Ladder) -> bool
+    requires { RingThere points.now outer.first outer.count × RingThere points.now tested.first tested.count × Chunked points.now table.now chunks }
+    ensures { result ≡ takes (ring_in points.now outer.first outer.count) (ring_in points.now tested.first tested.count) }
 {
-    let end = first + count;
-    let mut v = first;
-    while v < end {
-        let x = points[2 * v];
-        let y = points[2 * v + 1];
-        v += 1;
-        let place = against(points, outer_first, outer_count, x, y, table, chunks);
+    let packed = Packed {
+        points,
+        table,
+        chunks,
+    };
+    for v in tested.first..tested.first + tested.count {
+        let p = point_at(points, v);
+        let place = packed.against(outer, p);
         match place {
             Place::Boundary => continue,
             Place::Inside => return true,

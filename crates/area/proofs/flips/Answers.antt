@@ -7,22 +7,22 @@ use Rattle.scope.specs.Containment.{flips}
 use Rattle.area.proofs.Crossing.{around, left_is}
 use Rattle.area.proofs.flips.Goals as goal
 
-pub returns-then-py-by : goal.returns-then-py-by
+pub returns-then-p-b : goal.returns-then-p-b
 unfolding flips xor
-returns-then-py-by c = simp (lt-ltb _ _ c.if-py-ay.true, lt-ltb _ _ c.if-py-by.true)
+returns-then-p-b c = simp (lt-ltb _ _ c.if-p-a.true, lt-ltb _ _ c.if-p-b.true)
 
-pub returns-then-py-ay : goal.returns-then-py-ay
+pub returns-then-p-a : goal.returns-then-p-a
 unfolding flips xor around
-returns-then-py-ay c =
+returns-then-p-a c =
     let a = c.args in
-    simp (lt-ltb _ _ c.if-py-ay.true, le-ltb _ _ c.if-py-by.false, left_is, lt-ltb a.by a.ay (omega arith), c.turning.ensures, c.turning-then-py-ay.ensures)
+    simp (lt-ltb _ _ c.if-p-a.true, le-ltb _ _ c.if-p-b.false, left_is, lt-ltb a.b.y a.a.y (omega arith), c.turning.ensures, c.turning-then-p-a.ensures)
 
-pub returns-then-py-by-2 : goal.returns-then-py-by-2
+pub returns-then-p-b-2 : goal.returns-then-p-b-2
 unfolding flips xor around
-returns-then-py-by-2 c =
+returns-then-p-b-2 c =
     let a = c.args in
-    simp (le-ltb _ _ c.if-py-ay.false, lt-ltb _ _ c.if-py-by-2.true, left_is, le-ltb a.by a.ay (omega arith), c.turning-then-py-by-2.ensures, c.turning-then-py-by-2-2.ensures)
+    simp (le-ltb _ _ c.if-p-a.false, lt-ltb _ _ c.if-p-b-2.true, left_is, le-ltb a.b.y a.a.y (omega arith), c.turning-then-p-b-2.ensures, c.turning-then-p-b-2-2.ensures)
 
 pub returns : goal.returns
 unfolding flips xor
-returns c = simp (le-ltb _ _ c.if-py-ay.false, le-ltb _ _ c.if-py-by-2.false)
+returns c = simp (le-ltb _ _ c.if-p-a.false, le-ltb _ _ c.if-p-b-2.false)

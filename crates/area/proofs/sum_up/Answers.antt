@@ -1,19 +1,21 @@
--- `area::sum_up` meets its contract. The loop's invariant is `Summing`; the measure is what is left of the length. Assumes nothing.
+-- `area::sum_up` meets its contract. The loop's invariant is `Summing`. Assumes nothing.
+use mathlib.Core.Path.{ap}
 use native.Mathlib.Omega.{arith}
 use Rattle.scope.specs.Limits.{coordinate_limit}
+use Rattle.area.specs.Points.{meant}
 use Rattle.area.proofs.Sums.{sums-end}
-use Rattle.area.proofs.Words.{last_point}
+use Rattle.area.proofs.Words.{point_at}
 use Rattle.area.proofs.Summing.{summing-begin, summing-next, none_left}
 use Rattle.area.proofs.sum_up.Goals as goal
 
 pub loop-i-init : goal.loop-i-init
-unfolding last_point
-loop-i-init c = let pre = c.requires in summing-begin _ pre.0 pre.1 pre.2
+unfolding point_at
+loop-i-init c = let pre = c.requires in summing-begin _ pre.0 pre.1 pre.2 (ap meant c.point_at-last.ensures)
 
 pub loop-i-preserved : goal.loop-i-preserved
-unfolding coordinate_limit
+unfolding coordinate_limit point_at
 loop-i-preserved c =
-    summing-next c.loop-i.invariant c.loop-i-test.true c.product-gained.ensures c.product-lost.ensures
+    summing-next c.loop-i.invariant c.loop-i-test.true (ap meant c.point_at-next.ensures) c.product-gained.ensures c.product-lost.ensures
 
 pub returns : goal.returns
 returns c =

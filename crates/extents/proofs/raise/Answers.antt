@@ -10,11 +10,11 @@ returns c =
     args.items
     args.count
     args.free
-    c.fewer-group_count.result
-    c.fewer-block_count.result
+    c.min-group_count.result
+    c.min-block_count.result
     (omega arith)
-    c.fewer-group_count.ensures.0
-    c.fewer-block_count.ensures.0
+    (omega arith)
+    (omega arith)
     (omega arith)
     c.fill_groups.ensures
     c.fill_groups-2.ensures

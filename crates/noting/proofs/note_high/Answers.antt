@@ -1,5 +1,4 @@
--- `noting::note_high` meets its contract. The loop's invariant is `HighWalked`: the records so far hold the high parts of their keys. The measure is the number
--- of records that are left. Assumes nothing.
+-- `noting::note_high` meets its contract. The loop's invariant is `HighWalked`: the records so far hold the high parts of their keys. Assumes nothing.
 use Rattle.noting.proofs.High.{high-begin, high-asks, high-next, high_end}
 use Rattle.noting.proofs.note_high.Goals as goal
 

@@ -1,12 +1,8 @@
--- `taking::takes` meets its contract. The loop's invariant is `Passed`: the vertices that are not passed answer as all do. The measure is how many are left.
--- Assumes nothing.
-use Prim.Native.Nat.{◌-◌, ◌+◌}
+-- `taking::takes` meets its contract. The loop's invariant is `Passed`: the vertices that are not passed answer as all do. Assumes nothing.
+use Prim.Native.Nat.{◌+◌}
 use Rattle.extents.specs.Points.{ring_in}
 use Rattle.taking.proofs.Walks.{Passed}
 use Rattle.taking.proofs.takes.Given as goal
 
 abbrev pub invariant-loop-v : goal.invariant-loop-v
-invariant-loop-v l = Passed (ring_in l.points l.outer_first l.outer_count) (ring_in l.points l.first l.count) l.points (l.first + l.count) l.v
-
-abbrev pub decreases-loop-v : goal.decreases-loop-v
-decreases-loop-v l = l.first + l.count - l.v
+invariant-loop-v l = Passed (ring_in l.points l.fn.outer.first l.fn.outer.count) (ring_in l.points l.fn.tested.first l.fn.tested.count) l.points (l.fn.tested.first + l.fn.tested.count) l.v

@@ -1,4 +1,4 @@
--- `taking::along_near` meets its contract. The loop's invariant is `Gone`: the pairs that are neither passed over nor walked answer as all do. The measure
+-- `taking::Packed::along_near` meets its contract. The loop's invariant is `Gone`: the pairs that are neither passed over nor walked answer as all do. The measure
 -- is what is left of them. Assumes nothing.
 use mathlib.Core.Path.{refl, sym, ap, subst, ◌∙◌}
 use mathlib.Core.Bool.{true, false}
@@ -9,15 +9,15 @@ use Rattle.extents.specs.Ladders.{Chunked}
 use Rattle.taking.specs.Places.{place_of}
 use Rattle.taking.proofs.Walks.{placed}
 use Rattle.taking.proofs.Passing.{first-chunked, gone_held, gone-next, gone-end}
-use Rattle.taking.proofs.along_near.Goals as goal
+use Rattle.taking.proofs.Packed.along_near.Goals as goal
 
 pub loop-k-init : goal.loop-k-init
 loop-k-init c =
     record {
       chunked =
-          subst (Chunked c.args.points.now c.args.table.now) (sym c.first_items-ladder.ensures)
-          (first-chunked (c.args.last / 64 + 1) c.requires.1);
-      there = c.requires.0;
+          subst (Chunked c.args.self.now.points.now c.args.self.now.table.now) (sym c.first_items-ladder.ensures)
+          (first-chunked (c.args.last / 64 + 1) c.args.self.now.chunked);
+      there = c.requires;
       not-before = omega arith;
       not-past = omega arith;
       left = refl;
@@ -55,10 +55,5 @@ unfolding place_of signed
 loop-k-preserved c =
     gone-next c.loop-k.invariant c.near_from-near.ensures c.stop_after-k.ensures false (placed _ outside (sym c.along-place.ensures ∙ c.in-Outside.is))
 
-pub returns-then-within : goal.returns-then-within
-unfolding place_of signed
-returns-then-within c = sym (ap place_of (gone-end c.loop-k.invariant c.loop-k-test.false ∙ ap signed c.if-within.true))
-
 pub returns : goal.returns
-unfolding place_of signed
-returns c = sym (ap place_of (gone-end c.loop-k.invariant c.loop-k-test.false ∙ ap signed c.if-within.false))
+returns c = c.by_sign.ensures ∙ sym (ap place_of (gone-end c.loop-k.invariant c.loop-k-test.false))
