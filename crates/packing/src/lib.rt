@@ -2,7 +2,7 @@
 // with. Every function is total: a word past a table's end reads as 0 and is not stored.
 #![tactic(auto)]
 
-ghost use Rattle.std.specs.Prelude.{◌≡◌, ◌%◌, ◌^◌};
+ghost use Rattle.std.specs.Prelude.{◌≡◌, ◌+◌, ◌*◌, ◌%◌, ◌^◌, ◌<◌};
 ghost use Rattle.std.proofs.lemmas.List.Edits.{sets};
 ghost use Rattle.machine.specs.Machine.{link_next};
 ghost use Rattle.machine.specs.Walk.{index_words, point_words, walk_points, record_words, walk_records};
@@ -58,9 +58,66 @@ pub fn put_record(directory: &mut [u32], at: usize, first: u64, count: u64)
     }
 }
 
+// How far a walk along the links has come: the ring's first link and the link that is next, the word that the next point goes to and the word that the ring's
+// record goes to, the number of the ring's first point, and how many links of the ring are behind.
+#[derive(Clone, Copy)]
+pub struct Walk {
+    pub first: u32,
+    pub k: u32,
+    pub at: usize,
+    pub record_at: usize,
+    pub first_point: u64,
+    pub size: u64,
+}
+
+impl Walk {
+    // A walk that begins at link `head`.
+    pub fn begin(head: u32) -> Walk
+        ensures { result ≡ record { first = head; k = head; at = 0; record_at = 0; first_point = 0; size = 0 } }
+    {
+        Walk {
+            first: head,
+            k: head,
+            at: 0,
+            record_at: 0,
+            first_point: 0,
+            size: 0,
+        }
+    }
+
+    // Past a link with its point, on to the next link of its ring.
+    pub fn along(self, next: u32) -> Walk
+        requires { (self.at + 2 < 2 ^ 64) × (self.size + 1 < 2 ^ 64) }
+        ensures { result ≡ record self { k = next; at = self.at + 2; size = self.size + 1 } }
+    {
+        Walk {
+            k: next,
+            at: self.at + 2,
+            size: self.size + 1,
+            ..self
+        }
+    }
+
+    // Past the last link of a ring, with its point and the closing one and a record of `stride` words, on to the first link of the next ring.
+    pub fn around(self, next: u32, stride: usize) -> Walk
+        requires { (self.at + 4 < 2 ^ 64) × (self.record_at + stride < 2 ^ 64) × (self.first_point + (self.size + 2) < 2 ^ 64) }
+        ensures { result ≡ record { first = next; k = next; at = self.at + 4; record_at = self.record_at + stride; first_point = self.first_point + (self.size + 2); size = 0 } }
+    {
+        Walk {
+            first: next,
+            k: next,
+            at: self.at + 4,
+            record_at: self.record_at + stride,
+            first_point: self.first_point + (self.size + 2),
+            size: 0,
+        }
+    }
+}
+
 // Walks `count` links from link `head` on. The points of the rings are stored one after the other from word 0 on, two words a point: a point for each link,
 // and at a ring's end its first point again. There the ring's record is stored too, without its area, one record after the other from word 0 on, four words a
 // record. Past the end of a table nothing is stored.
+// Kept: `write_lines` of `plotting` has this loop too; a closure that stores would hide from its caller what it stored, a trait needs a struct and laws a walk.
 pub fn write_rings(
     links: &[u32],
     dx: u32,
@@ -72,31 +129,16 @@ pub fn write_rings(
     ensures points_after { points.new ≡ sets points.old 0 (walk_points dx links.now head head count) }
     ensures directory_after { directory.new ≡ sets directory.old 0 (walk_records links.now 0 0 head count) }
 {
-    let mut first = head;
-    let mut k = head;
-    let mut at: usize = 0;
-    let mut first_point: u64 = 0;
-    let mut size: u64 = 0;
-    let mut record_at: usize = 0;
-    let mut left = count;
-    while 0 < left {
-        left -= 1;
-        put_point(links, dx, k, points, at);
-        at += 2;
-        let next = next_link(links, k);
+    let mut walk = Walk::begin(head);
+    for _ in 0..count {
+        put_point(links, dx, walk.k, points, walk.at);
+        let next = next_link(links, walk.k);
         if next < MARK {
-            size += 1;
-            k = next;
+            walk = walk.along(next);
         } else {
-            put_point(links, dx, first, points, at);
-            at += 2;
-            let ring_points = size + 2;
-            put_record(directory, record_at, first_point, ring_points);
-            record_at += SHORT_STRIDE;
-            first_point += ring_points;
-            size = 0;
-            k = next - MARK;
-            first = k;
+            put_point(links, dx, walk.first, points, walk.at + 2);
+            put_record(directory, walk.record_at, walk.first_point, walk.size + 2);
+            walk = walk.around(next - MARK, SHORT_STRIDE);
         }
     }
 }
@@ -105,14 +147,6 @@ pub fn write_rings(
 pub fn clear(table: &mut [u32], words: usize)
     ensures { table.new ≡ cleared table.old words }
 {
-    let end = if words < table.len() {
-        words
-    } else {
-        table.len()
-    };
-    let mut i = 0;
-    while i < end {
-        table[i] = 0;
-        i += 1;
-    }
+    let end = words.min(table.len());
+    table[..end].fill(0);
 }

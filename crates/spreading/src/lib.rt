@@ -35,9 +35,7 @@ pub fn spread(points: &[u16], directory: &mut [u32], n: usize)
     requires { (n < 2 ^ 32) × (directory_words n ≤ length directory.old) }
     ensures { directory.new ≡ written (spread_from points.now directory.old 0 n) directory.old }
 {
-    let mut k = n;
-    while 0 < k {
-        k -= 1;
+    for k in (0..n).rev() {
         spread_record(points, directory, k);
     }
 }
