@@ -8,15 +8,8 @@ ghost use Rattle.machine.specs.Machine.{link_next};
 ghost use Rattle.machine.specs.Walk.{index_words, point_words, walk_points, record_words, walk_records};
 ghost use Rattle.packing.specs.Cleared.{cleared};
 
-use lent::{MARK, put, word};
+use lent::{MARK, low_word, put, word};
 use limits::{LINE, NO_OWNER, SHORT_STRIDE};
-
-// A number as a word holds it, modulo 2^32.
-fn word_of(n: u64) -> u32
-    ensures { result ≡ n % 2 ^ 32 }
-{
-    (n % 4294967296) as u32
-}
 
 // The link after link `k`, and the mark with it where `k` is the last of its ring.
 pub fn next_link(links: &[u32], k: u32) -> u32
@@ -29,9 +22,9 @@ pub fn next_link(links: &[u32], k: u32) -> u32
 pub fn put_index(points: &mut [u16], dx: u32, index: u32, at: usize)
     ensures { points.new ≡ sets points.old at (index_words dx index) }
 {
-    let stride = 2 * (dx as u64 + 1);
-    let x = (index as u64 % stride % 65536) as u16;
-    let y = (index as u64 / stride % 65536) as u16;
+    let stride = 2 * (u64::from(dx) + 1);
+    let x = (u64::from(index) % stride & 0xffff) as u16;
+    let y = (u64::from(index) / stride & 0xffff) as u16;
     if at < points.len() {
         put(points, at, x);
         put(points, at + 1, y);
@@ -51,8 +44,8 @@ pub fn put_record(directory: &mut [u32], at: usize, first: u64, count: u64)
     ensures { directory.new ≡ sets directory.old at (record_words first count) }
 {
     if at < directory.len() {
-        put(directory, at, word_of(first));
-        put(directory, at + 1, word_of(count));
+        put(directory, at, low_word(first));
+        put(directory, at + 1, low_word(count));
         put(directory, at + 2, LINE);
         put(directory, at + 3, NO_OWNER);
     }

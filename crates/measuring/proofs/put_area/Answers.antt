@@ -7,7 +7,7 @@ pub returns-then-at-directory : goal.returns-then-at-directory
 returns-then-at-directory c =
     let at = c.args.at in
     let second : at + 1 ≡ suc at = omega arith in
-    rw (c.put-then-at-directory.ensures, c.put.ensures, second)
+    rw (c.put-then-at-directory.ensures, c.put.ensures, c.high_word.ensures, c.low_word.ensures, second)
 
 pub returns-else-at-directory : goal.returns-else-at-directory
 returns-else-at-directory c =
