@@ -3,7 +3,7 @@ ghost use Rattle.std.specs.Prelude.{◌≡◌};
 ghost use Rattle.machine.specs.Machine.{word_of, slot_word, column_word, link_point, with_next, with_link, moved, released};
 ghost use Rattle.lines.specs.Values.{slot_at, slot_put};
 
-use lent::{put, word};
+use lent::{low_word, put, word};
 
 // What a slot of the open table holds of its line: the first link, the last link, the index of the end point, and the number of links.
 #[derive(Clone, Copy)]
@@ -14,11 +14,25 @@ pub struct Slot {
     pub size: u32,
 }
 
+impl Slot {
+    // The slot of a line of one link.
+    pub fn of_link(link: u32, end: u32) -> Slot
+        ensures { result ≡ record { first = link; last = link; end = end; size = 1 } }
+    {
+        Slot {
+            first: link,
+            last: link,
+            end,
+            size: 1,
+        }
+    }
+}
+
 // A sum as a word holds it, modulo 2^32.
 pub fn word_of(sum: u64) -> u32
     ensures { result ≡ word_of sum }
 {
-    (sum % 4294967296) as u32
+    low_word(sum)
 }
 
 // Where a part of a slot stands in the open table of a grid with `dx` columns.
@@ -95,8 +109,7 @@ fn move_line(lines: &mut [u32], links: &[u32], dx: u32, last: u32, i: u32)
 pub fn release(lines: &mut [u32], links: &[u32], dx: u32, last: u32, i: u32)
     ensures { lines.new ≡ released dx lines.old links.now last i }
 {
-    if i == last {
-        return;
+    if i != last {
+        move_line(lines, links, dx, last, i);
     }
-    move_line(lines, links, dx, last, i);
 }

@@ -1,15 +1,14 @@
 -- `lines::append` meets its contract: what was read and what was stored, put in for each other from the last store back to the entry, is the
 -- definition. Assumes nothing.
-use Rattle.machine.specs.Machine.{appended}
+use Rattle.machine.specs.Machine.{word_of, appended}
 use Rattle.lines.proofs.append.Goals as goal
 
 pub returns : goal.returns
-unfolding appended
+unfolding word_of appended
 returns c =
     rw (
       c.put.ensures,
       c.put_slot.ensures,
-      c.word_of.ensures,
       c.put_next.ensures,
       c.put_link.ensures,
       c.slot_at-line.ensures,

@@ -6,6 +6,6 @@ pub returns-then-f-g : goal.returns-then-f-g
 returns-then-f-g c =
     rw (c.close.ensures, eq-eqb _ _ c.if-f-g.true)
 
-pub returns : goal.returns
-returns c =
+pub returns-else-f-g : goal.returns-else-f-g
+returns-else-f-g c =
     rw (c.join.ensures, ne_eqb _ _ c.if-f-g.false)

@@ -5,9 +5,9 @@ use Rattle.lines.proofs.tables.release.Goals as goal
 
 pub returns-then-i-last : goal.returns-then-i-last
 unfolding released
-returns-then-i-last c = rw (eq-eqb _ _ c.if-i-last.true)
+returns-then-i-last c =
+    rw (ne_eqb _ _ c.if-i-last.true, c.move_line.ensures)
 
-pub returns : goal.returns
+pub returns-else-i-last : goal.returns-else-i-last
 unfolding released
-returns c =
-    rw (ne_eqb _ _ c.if-i-last.false, c.move_line.ensures)
+returns-else-i-last c = rw (eq-eqb _ _ c.if-i-last.false)
