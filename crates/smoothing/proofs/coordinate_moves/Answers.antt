@@ -1,19 +1,14 @@
--- `smoothing::coordinate_moves` meets its contract: both arms are the definition's. Assumes nothing.
-use mathlib.Core.Path.{sym, ◌∙◌}
+-- `smoothing::coordinate_moves` meets its contract: where a fraction is found the coordinate moves by it. Assumes nothing.
 use Rattle.smoothing.specs.Coordinates.{coordinate_moves}
+use Rattle.smoothing.proofs.Found.{was-found, was-not-found}
 use Rattle.smoothing.proofs.coordinate_moves.Goals as goal
 
-pub returns-then-moves : goal.returns-then-moves
+pub returns-in-Some : goal.returns-in-Some
 unfolding coordinate_moves
-returns-then-moves c =
-    rw (
-      c.moved_by.ensures,
-      c.fraction.ensures,
-      c.sample_at-v1.ensures,
-      c.sample_at-v0.ensures,
-      sym c.moves.ensures ∙ c.if-moves.true,
-    )
+returns-in-Some c =
+    let found = was-found _ _ _ c.in-Some.ensures in
+    rw (c.moved_by.ensures, found.0, found.1)
 
-pub returns : goal.returns
+pub returns-in-None : goal.returns-in-None
 unfolding coordinate_moves
-returns c = rw (sym c.moves.ensures ∙ c.if-moves.false)
+returns-in-None c = rw (was-not-found _ _ c.in-None.ensures)
