@@ -11,7 +11,7 @@ use lent::value_or;
 use scope::Level;
 
 // Where a line is to stand: the place of the point (0, 0), and how far apart neighbouring columns and rows are.
-#[derive(Clone, Copy)]
+#[derive(Clone, Copy, PartialEq)]
 pub struct Placement {
     pub x_origin: f64,
     pub y_origin: f64,
@@ -143,14 +143,19 @@ fn smoothed(
     }
 }
 
+// The placement that moves nothing.
+const IN_PLACE: Placement = Placement {
+    x_origin: 0.0,
+    y_origin: 0.0,
+    x_step: 1.0,
+    y_step: 1.0,
+};
+
 // Whether a placement moves anything: its origin differs from (0, 0) or its step from (1, 1).
 fn places(placement: Placement) -> bool
     ensures { result ≡ placing (placing_of placement) }
 {
-    placement.x_origin != 0.0
-        || placement.y_origin != 0.0
-        || placement.x_step != 1.0
-        || placement.y_step != 1.0
+    placement != IN_PLACE
 }
 
 // A vertex in its place.
