@@ -28,6 +28,7 @@ pub struct Entry {
 }
 
 // A new line of one link, `k`, from the point of index `s` to that of index `e`, filed at the frontier words of both.
+#[tactic(auto, unfolding(machine::specs::Machine::started, machine::specs::Machine::word_of))]
 pub fn start(
     lines: &mut [u32],
     links: &mut [u32],
@@ -54,6 +55,7 @@ pub fn start(
 }
 
 // Link `k`, from `s` to `e`, goes to the end of line `f`, which is filed at the frontier word of `e`.
+#[tactic(auto, unfolding(machine::specs::Machine::appended, machine::specs::Machine::word_of))]
 pub fn append(
     lines: &mut [u32],
     links: &mut [u32],
@@ -83,6 +85,7 @@ pub fn append(
 }
 
 // Link `k`, from `s` to the start of line `g`, goes in front of that line, which is filed at the frontier word of `s`.
+#[tactic(auto, unfolding(machine::specs::Machine::prepended, machine::specs::Machine::word_of))]
 pub fn prepend(
     lines: &mut [u32],
     links: &mut [u32],
@@ -109,6 +112,7 @@ pub fn prepend(
 }
 
 // Link `k`, from `s`, joins line `f` to line `g`: `f` is followed by `g`, whose end is filed under `f`, and slot `g` is released.
+#[tactic(auto, unfolding(machine::specs::Machine::joined, machine::specs::Machine::joined_lines, machine::specs::Machine::joined_links, machine::specs::Machine::word_of))]
 pub fn join(
     lines: &mut [u32],
     links: &mut [u32],
@@ -138,6 +142,7 @@ pub fn join(
 }
 
 // The ring before, if there is one, learns the first link of the next ring.
+#[tactic(auto, unfolding(machine::specs::Machine::mark, machine::specs::Machine::word_of))]
 fn tell_ring_before(links: &mut [u32], p: Progress, first: u32)
     ensures { links.new
         ≡ cond (eqb p.rings 0) links.old (with_next links.old p.tail (word_of (mark + first))) }
@@ -155,6 +160,7 @@ fn head_after(p: Progress, first: u32) -> u32
 }
 
 // Link `k`, from `s`, closes line `f` to a ring: `k` is the ring's last link, and slot `f` is released.
+#[tactic(auto, unfolding(machine::specs::Machine::mark, machine::specs::Machine::closed, machine::specs::Machine::closed_links, machine::specs::Machine::word_of))]
 pub fn close(
     lines: &mut [u32],
     links: &mut [u32],
@@ -202,6 +208,7 @@ pub fn connect(
 }
 
 // The slots at the left and the top edge of a cell of column `c`.
+#[tactic(auto, unfolding(machine::specs::Machine::entry_of))]
 pub fn entry_of(lines: &[u32], dx: u32, c: u32) -> Entry
     ensures { edges_of result ≡ entry_of dx lines.now c }
 {
