@@ -12,6 +12,7 @@ use lent::{MARK, low_word, put, word};
 use limits::{LINE, NO_OWNER, SHORT_STRIDE};
 
 // The link after link `k`, and the mark with it where `k` is the last of its ring.
+#[tactic(auto, unfolding(machine::specs::Machine::link_next))]
 pub fn next_link(links: &[u32], k: u32) -> u32
     ensures { result ≡ link_next links.now k }
 {
@@ -19,6 +20,7 @@ pub fn next_link(links: &[u32], k: u32) -> u32
 }
 
 // Stores the point of an index as two words, from word `at` on: X, then Y.
+#[tactic(auto, unfolding(machine::specs::Walk::index_words, scope::specs::Cells::indexed_point))]
 pub fn put_index(points: &mut [u16], dx: u32, index: u32, at: usize)
     ensures { points.new ≡ sets points.old at (index_words dx index) }
 {
@@ -32,6 +34,7 @@ pub fn put_index(points: &mut [u16], dx: u32, index: u32, at: usize)
 }
 
 // Stores the start point of link `k`, from word `at` on.
+#[tactic(auto, unfolding(machine::specs::Walk::point_words, machine::specs::Machine::link_point))]
 fn put_point(links: &[u32], dx: u32, k: u32, points: &mut [u16], at: usize)
     ensures { points.new ≡ sets points.old at (point_words dx links.now k) }
 {
@@ -40,6 +43,7 @@ fn put_point(links: &[u32], dx: u32, k: u32, points: &mut [u16], at: usize)
 
 // Stores the record of a ring without its area as four words, from word `at` on: the number of its first point, how many points it has, its class, and no
 // owner.
+#[tactic(auto, unfolding(machine::specs::Walk::record_words, scope::specs::Limits::no_owner))]
 pub fn put_record(directory: &mut [u32], at: usize, first: u64, count: u64)
     ensures { directory.new ≡ sets directory.old at (record_words first count) }
 {
@@ -137,6 +141,7 @@ pub fn write_rings(
 }
 
 // Sets the first `words` words of a table to 0, or all where there are fewer. The rest stay.
+#[tactic(auto, using(std::proofs::lemmas::List::drop_min), unfolding(crate::specs::Cleared::cleared))]
 pub fn clear(table: &mut [u32], words: usize)
     ensures { table.new ≡ cleared table.old words }
 {
