@@ -20,6 +20,7 @@ use scope::Level;
 use smoothing::{Placement, line_vertex};
 
 // The start point of link `k`.
+#[tactic(auto, unfolding(machine::specs::Walk::start_point, machine::specs::Machine::link_point))]
 fn start_of(links: &[u32], dx: u32, k: u32) -> Point
     requires { 2 * (dx + 1) < 2 ^ 32 }
     ensures { point_of result ≡ start_point dx links.now k }
@@ -28,6 +29,7 @@ fn start_of(links: &[u32], dx: u32, k: u32) -> Point
 }
 
 // Stores the line's vertex at a point as two words, from word `at` on: x, then y.
+#[tactic(auto, unfolding(scope::specs::Tables::vertex_words, smoothing::specs::Values::vertex_of))]
 fn put_vertex(
     values: &[f64],
     level: Level,
@@ -57,6 +59,7 @@ fn stepped(area: u64, from: Point, to: Point) -> u64
 
 // Stores the record of a line as six words, from word `at` on: the number of its first point, how many points it has, its class, no owner, and the area of its
 // ring.
+#[tactic(auto, unfolding(machine::specs::Walk::record_words))]
 fn put_line(directory: &mut [u32], at: usize, first: u64, count: u64, area: u64)
     requires { at < 2 ^ 35 }
     ensures { directory.new ≡ sets directory.old at (record_words first count ++ (area % 2 ^ 32 ∷ area / 2 ^ 32 ∷ [])) }

@@ -60,6 +60,7 @@ fn sample_at(values: &[f64], dx: u32, x: u32, y: u32) -> f64
 }
 
 // Whether smoothing moves a doubled coordinate: it is whole, above 0 and below the side.
+#[tactic(auto, unfolding(scope::specs::Smoothing::moves))]
 fn moves(side: u32, doubled: u32) -> bool
     ensures { result ≡ moves side doubled }
 {
@@ -97,6 +98,7 @@ fn before_in_column(place: Point) -> Point
 }
 
 // How far the threshold lies on the way from one sample to the next.
+#[tactic(auto, unfolding(crate::specs::Coordinates::fraction))]
 fn fraction(threshold: f64, v0: f64, v1: f64) -> f64
     ensures { result ≡ fraction threshold v0 v1 }
 {
@@ -159,6 +161,7 @@ fn places(placement: Placement) -> bool
 }
 
 // A vertex in its place.
+#[tactic(auto, unfolding(scope::specs::Smoothing::placed_at, crate::specs::Values::placing_of, crate::specs::Values::vertex_of))]
 fn placed_at(placement: Placement, vertex: Vertex) -> Vertex
     ensures { vertex_of result ≡ placed_at (placing_of placement) (vertex_of vertex) }
 {
@@ -173,6 +176,7 @@ fn placed_at(placement: Placement, vertex: Vertex) -> Vertex
 }
 
 // The vertex of a line at a point of doubled coordinates: smoothed where that is asked, then placed.
+#[tactic(auto, unfolding(scope::specs::Smoothing::line_vertex, scope::specs::Smoothing::smoothed, scope::specs::Smoothing::unsmoothed, crate::specs::Values::vertex_of))]
 pub fn line_vertex(
     values: &[f64],
     level: Level,
@@ -207,6 +211,7 @@ pub fn line_vertex(
 }
 
 // A coordinate that moves by a fraction, if that is a number.
+#[tactic(auto, unfolding(crate::specs::Coordinates::moved_by))]
 fn moved_by(fraction: f64) -> Coordinate
     ensures { result ≡ moved_by fraction }
 {
@@ -218,6 +223,7 @@ fn moved_by(fraction: f64) -> Coordinate
 }
 
 // What smoothing does to a doubled coordinate: where it moves it lies between the sample at `from` and the one at `to`.
+#[tactic(auto, unfolding(crate::specs::Coordinates::coordinate_moves))]
 fn coordinate_moves(
     values: &[f64],
     level: Level,
@@ -236,6 +242,7 @@ fn coordinate_moves(
 }
 
 // What smoothing does to the vertex at a point of doubled coordinates.
+#[tactic(auto, unfolding(crate::specs::Coordinates::vertex_moves))]
 pub fn vertex_moves(values: &[f64], level: Level, dx: u32, dy: u32, point: Point) -> VertexMoves
     ensures { result ≡ vertex_moves values.now level.threshold dx dy (record { x = point.x; y = point.y }) }
 {
