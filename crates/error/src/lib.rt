@@ -1,63 +1,80 @@
-// The refusals of the library, as an enum, each with the number that document 01 gives it.
+// The refusals of the library, as an enum, each with the number that document 01 gives it and a sentence that says why.
 #![tactic(auto)]
 
-ghost use Rattle.std.specs.Prelude.{◌≡◌};
+ghost use Rattle.std.specs.Prelude.{◌≡◌, Some};
 ghost use Rattle.error.specs.Number.{refusal_number};
+ghost use Rattle.error.specs.Text.{refusal_text};
+
+use std::error::Error;
+use std::fmt;
 
 // Why a call was refused. The lowest number that applies is returned, alone.
-#[derive(Clone, Copy)]
+#[derive(Clone, Copy, Debug, PartialEq, Eq)]
 pub enum Refusal {
     // a side is 0 or above the limit
-    BadSide,
+    BadSide = 1,
     // the value count is not dx·dy
-    BadDimension,
+    BadDimension = 2,
     // a band list of fewer than two thresholds
-    FewThresholds,
+    FewThresholds = 3,
     // no pair k, k+1 in the band list
-    NoPair,
+    NoPair = 4,
     // the open table is short
-    OpenShort,
+    OpenShort = 5,
     // the link table is short
-    LinksShort,
+    LinksShort = 6,
     // the points are short
-    PointsShort,
+    PointsShort = 7,
     // the directory is short
-    DirectoryShort,
+    DirectoryShort = 8,
     // a ring set that the writer does not take
-    BadRingSet,
+    BadRingSet = 9,
     // the text room is short
-    TextShort,
+    TextShort = 10,
     // a ring that `area` or `contains` does not take
-    BadRing,
+    BadRing = 11,
     // the program's input text is faulty
-    BadText,
+    BadText = 12,
     // a row of values whose length is not the number of columns
-    BadRow,
+    BadRow = 13,
     // a row after the last, an end before it, or a second end
-    BadTurn,
+    BadTurn = 14,
     // a ring or a vertex whose number is not in the tables, or a vertex midway in no sample pair that has a sample in the grid
-    NotThere,
+    NotThere = 15,
 }
 
 // The refusal's number in document 01.
 pub fn number(refusal: Refusal) -> u32
     ensures { result ≡ refusal_number refusal }
 {
-    match refusal {
-        Refusal::BadSide => 1,
-        Refusal::BadDimension => 2,
-        Refusal::FewThresholds => 3,
-        Refusal::NoPair => 4,
-        Refusal::OpenShort => 5,
-        Refusal::LinksShort => 6,
-        Refusal::PointsShort => 7,
-        Refusal::DirectoryShort => 8,
-        Refusal::BadRingSet => 9,
-        Refusal::TextShort => 10,
-        Refusal::BadRing => 11,
-        Refusal::BadText => 12,
-        Refusal::BadRow => 13,
-        Refusal::BadTurn => 14,
-        Refusal::NotThere => 15,
+    refusal as u32
+}
+
+// A refusal prints as a sentence, which is that of `contour_strerror` in include/contour.h. Number 12, which only the program draws, has none there.
+impl fmt::Display for Refusal {
+    ghost output = { λ refusal. Some (refusal_text refusal) };
+
+    fn fmt<W: fmt::Write>(&self, f: &mut fmt::Formatter<W>) -> fmt::Result {
+        f.write_str(match self {
+            Refusal::BadSide => "a side of the terrain is 0 or above 4,096",
+            Refusal::BadDimension => "the number of values is not columns times rows",
+            Refusal::FewThresholds => "the list has fewer than two thresholds",
+            Refusal::NoPair => "the list has no pair of thresholds k and k + 1",
+            Refusal::OpenShort => "the open table is short",
+            Refusal::LinksShort => "the link table is short",
+            Refusal::PointsShort => "the points are short",
+            Refusal::DirectoryShort => "the directory is short",
+            Refusal::BadRingSet => "the ring set is faulty",
+            Refusal::TextShort => "the room for the text is short",
+            Refusal::BadRing =>
+                "a ring is empty or odd, has over 67,108,864 points or a coordinate above 8,192",
+            Refusal::BadText => "the input text is faulty",
+            Refusal::BadRow => "the row has not a value for each column",
+            Refusal::BadTurn => "all rows are there already, or not yet, or the end was taken",
+            Refusal::NotThere =>
+                "there is no ring or vertex of this number, or the vertex stands between no samples",
+        })
     }
 }
+
+impl Error for Refusal {}

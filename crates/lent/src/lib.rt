@@ -1,7 +1,7 @@
 // A value of a lent table, which may be of any length: past the end it reads as 0 and is not stored. And the mark by which the links of rings end.
 #![tactic(auto)]
 
-ghost use Rattle.std.specs.Prelude.{◌≡◌, get_or, set};
+ghost use Rattle.std.specs.Prelude.{◌≡◌, ◌/◌, ◌%◌, ◌^◌, get_or, set};
 
 // The last link of a ring holds this number, with the first link of the next ring added. No link has this number or a larger one.
 pub const MARK: u32 = 2147483648;
@@ -27,4 +27,18 @@ pub fn put<T: Copy>(table: &mut [T], i: usize, value: T)
     if i < table.len() {
         table[i] = value;
     }
+}
+
+// A number as a word holds it, modulo 2^32: its low word.
+pub fn low_word(n: u64) -> u32
+    ensures { result ≡ n % 2 ^ 32 }
+{
+    (n & 0xffff_ffff) as u32
+}
+
+// The word above it.
+pub fn high_word(n: u64) -> u32
+    ensures { result ≡ n / 2 ^ 32 }
+{
+    (n >> 32) as u32
 }

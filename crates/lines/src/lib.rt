@@ -2,12 +2,12 @@
 // is total, as the table machine is, which each contract cites: a word past a table's end reads as 0 and is not stored.
 #![tactic(auto)]
 
-ghost use Rattle.std.specs.Prelude.{◌≡◌, cond, ◌+◌, ◌-◌, eqb};
+ghost use Rattle.std.specs.Prelude.{◌≡◌, cond, ◌+◌, eqb};
 ghost use Rattle.machine.specs.Machine.{mark, word_of, with_next, started, appended, prepended, joined, closed, entry_of};
 ghost use Rattle.lines.specs.Values.{tables_of, edges_of, connected};
 
 use lent::{MARK, put, word};
-use tables::{Slot, column_word, put_link, put_next, put_slot, release, slot_at, word_of};
+use tables::{Slot, column_word, put_link, put_next, put_slot, release, slot_at};
 
 pub mod tables;
 
@@ -27,19 +27,8 @@ pub struct Entry {
     pub top: u32,
 }
 
-// The slot of a line of one link.
-fn one_link(link: u32, end: u32) -> Slot
-    ensures { result ≡ record { first = link; last = link; end = end; size = 1 } }
-{
-    Slot {
-        first: link,
-        last: link,
-        end,
-        size: 1,
-    }
-}
-
 // A new line of one link, `k`, from the point of index `s` to that of index `e`, filed at the frontier words of both.
+#[tactic(auto, unfolding(machine::specs::Machine::started, machine::specs::Machine::word_of))]
 pub fn start(
     lines: &mut [u32],
     links: &mut [u32],
@@ -56,18 +45,17 @@ pub fn start(
 {
     let count = p.count;
     put_link(links, k, s, 0);
-    put_slot(lines, dx, count, one_link(k, e));
+    put_slot(lines, dx, count, Slot::of_link(k, e));
     put(lines, ws, count);
     put(lines, we, count);
     Progress {
-        count: word_of(count as u64 + 1),
-        rings: p.rings,
-        head: p.head,
-        tail: p.tail,
+        count: count.wrapping_add(1),
+        ..p
     }
 }
 
 // Link `k`, from `s` to `e`, goes to the end of line `f`, which is filed at the frontier word of `e`.
+#[tactic(auto, unfolding(machine::specs::Machine::appended, machine::specs::Machine::word_of))]
 pub fn append(
     lines: &mut [u32],
     links: &mut [u32],
@@ -86,10 +74,10 @@ pub fn append(
     put_link(links, k, s, 0);
     put_next(links, line.last, k);
     let longer = Slot {
-        first: line.first,
         last: k,
         end: e,
-        size: word_of(line.size as u64 + 1),
+        size: line.size.wrapping_add(1),
+        ..line
     };
     put_slot(lines, dx, f, longer);
     put(lines, we, f);
@@ -97,6 +85,7 @@ pub fn append(
 }
 
 // Link `k`, from `s` to the start of line `g`, goes in front of that line, which is filed at the frontier word of `s`.
+#[tactic(auto, unfolding(machine::specs::Machine::prepended, machine::specs::Machine::word_of))]
 pub fn prepend(
     lines: &mut [u32],
     links: &mut [u32],
@@ -114,23 +103,16 @@ pub fn prepend(
     put_link(links, k, s, line.first);
     let longer = Slot {
         first: k,
-        last: line.last,
-        end: line.end,
-        size: word_of(line.size as u64 + 1),
+        size: line.size.wrapping_add(1),
+        ..line
     };
     put_slot(lines, dx, g, longer);
     put(lines, ws, g);
     p
 }
 
-// One less, and 0 for 0.
-fn one_less(n: u32) -> u32
-    ensures { result ≡ n - 1 }
-{
-    if n == 0 { 0 } else { n - 1 }
-}
-
 // Link `k`, from `s`, joins line `f` to line `g`: `f` is followed by `g`, whose end is filed under `f`, and slot `g` is released.
+#[tactic(auto, unfolding(machine::specs::Machine::joined, machine::specs::Machine::joined_lines, machine::specs::Machine::joined_links, machine::specs::Machine::word_of))]
 pub fn join(
     lines: &mut [u32],
     links: &mut [u32],
@@ -149,29 +131,24 @@ pub fn join(
     put_next(links, front.last, k);
     let both = Slot {
         first: front.first,
-        last: back.last,
-        end: back.end,
-        size: word_of(front.size as u64 + back.size as u64 + 1),
+        size: front.size.wrapping_add(back.size).wrapping_add(1),
+        ..back
     };
     put_slot(lines, dx, f, both);
     put(lines, column_word(dx, back.end), f);
-    let count = one_less(p.count);
+    let count = p.count.saturating_sub(1);
     release(lines, links, dx, count, g);
-    Progress {
-        count,
-        rings: p.rings,
-        head: p.head,
-        tail: p.tail,
-    }
+    Progress { count, ..p }
 }
 
 // The ring before, if there is one, learns the first link of the next ring.
+#[tactic(auto, unfolding(machine::specs::Machine::mark, machine::specs::Machine::word_of))]
 fn tell_ring_before(links: &mut [u32], p: Progress, first: u32)
     ensures { links.new
         ≡ cond (eqb p.rings 0) links.old (with_next links.old p.tail (word_of (mark + first))) }
 {
     if p.rings != 0 {
-        put_next(links, p.tail, word_of(MARK as u64 + first as u64));
+        put_next(links, p.tail, MARK.wrapping_add(first));
     }
 }
 
@@ -183,6 +160,7 @@ fn head_after(p: Progress, first: u32) -> u32
 }
 
 // Link `k`, from `s`, closes line `f` to a ring: `k` is the ring's last link, and slot `f` is released.
+#[tactic(auto, unfolding(machine::specs::Machine::mark, machine::specs::Machine::closed, machine::specs::Machine::closed_links, machine::specs::Machine::word_of))]
 pub fn close(
     lines: &mut [u32],
     links: &mut [u32],
@@ -198,11 +176,11 @@ pub fn close(
     put_link(links, k, s, MARK);
     put_next(links, line.last, k);
     tell_ring_before(links, p, line.first);
-    let count = one_less(p.count);
+    let count = p.count.saturating_sub(1);
     release(lines, links, dx, count, f);
     Progress {
         count,
-        rings: word_of(p.rings as u64 + 1),
+        rings: p.rings.wrapping_add(1),
         head: head_after(p, line.first),
         tail: k,
     }
@@ -223,12 +201,14 @@ pub fn connect(
         ≡ connected dx (tables_of lines.old links.old p) k s f g }
 {
     if f == g {
-        return close(lines, links, p, dx, k, s, f);
+        close(lines, links, p, dx, k, s, f)
+    } else {
+        join(lines, links, p, dx, k, s, f, g)
     }
-    join(lines, links, p, dx, k, s, f, g)
 }
 
 // The slots at the left and the top edge of a cell of column `c`.
+#[tactic(auto, unfolding(machine::specs::Machine::entry_of))]
 pub fn entry_of(lines: &[u32], dx: u32, c: u32) -> Entry
     ensures { edges_of result ≡ entry_of dx lines.now c }
 {

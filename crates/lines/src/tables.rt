@@ -3,7 +3,7 @@ ghost use Rattle.std.specs.Prelude.{◌≡◌};
 ghost use Rattle.machine.specs.Machine.{word_of, slot_word, column_word, link_point, with_next, with_link, moved, released};
 ghost use Rattle.lines.specs.Values.{slot_at, slot_put};
 
-use lent::{put, word};
+use lent::{low_word, put, word};
 
 // What a slot of the open table holds of its line: the first link, the last link, the index of the end point, and the number of links.
 #[derive(Clone, Copy)]
@@ -14,14 +14,30 @@ pub struct Slot {
     pub size: u32,
 }
 
+impl Slot {
+    // The slot of a line of one link.
+    pub fn of_link(link: u32, end: u32) -> Slot
+        ensures { result ≡ record { first = link; last = link; end = end; size = 1 } }
+    {
+        Slot {
+            first: link,
+            last: link,
+            end,
+            size: 1,
+        }
+    }
+}
+
 // A sum as a word holds it, modulo 2^32.
+#[tactic(auto, unfolding(machine::specs::Machine::word_of))]
 pub fn word_of(sum: u64) -> u32
     ensures { result ≡ word_of sum }
 {
-    (sum % 4294967296) as u32
+    low_word(sum)
 }
 
 // Where a part of a slot stands in the open table of a grid with `dx` columns.
+#[tactic(auto, unfolding(machine::specs::Machine::slot_word))]
 pub fn slot_word(dx: u32, slot: u32, part: u8) -> usize
     ensures { result ≡ slot_word dx slot part }
 {
@@ -29,6 +45,7 @@ pub fn slot_word(dx: u32, slot: u32, part: u8) -> usize
 }
 
 // Where the horizontal edge of a point's column stands in the open table, by the point's index.
+#[tactic(auto, unfolding(machine::specs::Machine::column_word))]
 pub fn column_word(dx: u32, index: u32) -> usize
     ensures { result ≡ column_word dx index }
 {
@@ -37,6 +54,7 @@ pub fn column_word(dx: u32, index: u32) -> usize
 }
 
 // What a slot holds.
+#[tactic(auto, unfolding(machine::specs::Machine::first_link, machine::specs::Machine::last_link, machine::specs::Machine::end_point, machine::specs::Machine::link_count))]
 pub fn slot_at(lines: &[u32], dx: u32, i: u32) -> Slot
     ensures { result ≡ slot_at dx lines.now i }
 {
@@ -49,6 +67,7 @@ pub fn slot_at(lines: &[u32], dx: u32, i: u32) -> Slot
 }
 
 // Stores all four words of a slot.
+#[tactic(auto, unfolding(machine::specs::Machine::with_slot))]
 pub fn put_slot(lines: &mut [u32], dx: u32, i: u32, slot: Slot)
     ensures { lines.new ≡ slot_put dx lines.old i slot }
 {
@@ -59,6 +78,7 @@ pub fn put_slot(lines: &mut [u32], dx: u32, i: u32, slot: Slot)
 }
 
 // The index of the point at which a link starts.
+#[tactic(auto, unfolding(machine::specs::Machine::link_point))]
 pub fn link_point(links: &[u32], k: u32) -> u32
     ensures { result ≡ link_point links.now k }
 {
@@ -66,6 +86,7 @@ pub fn link_point(links: &[u32], k: u32) -> u32
 }
 
 // Stores which link comes after link `k`.
+#[tactic(auto, unfolding(machine::specs::Machine::with_next))]
 pub fn put_next(links: &mut [u32], k: u32, next: u32)
     ensures { links.new ≡ with_next links.old k next }
 {
@@ -73,6 +94,7 @@ pub fn put_next(links: &mut [u32], k: u32, next: u32)
 }
 
 // Stores link `k`: the index of its start point, and the link after it.
+#[tactic(auto, unfolding(machine::specs::Machine::with_link))]
 pub fn put_link(links: &mut [u32], k: u32, point: u32, next: u32)
     ensures { links.new ≡ with_link links.old k point next }
 {
@@ -81,6 +103,7 @@ pub fn put_link(links: &mut [u32], k: u32, point: u32, next: u32)
 }
 
 // The line of slot `last` moves into slot `i`, and its two ends are filed there.
+#[tactic(auto, unfolding(machine::specs::Machine::moved))]
 fn move_line(lines: &mut [u32], links: &[u32], dx: u32, last: u32, i: u32)
     ensures { lines.new ≡ moved dx lines.old links.now last i }
 {
@@ -92,11 +115,11 @@ fn move_line(lines: &mut [u32], links: &[u32], dx: u32, last: u32, i: u32)
 }
 
 // The line of slot `i` goes: where it is not the last one, the line of slot `last` moves into its slot.
+#[tactic(auto, unfolding(machine::specs::Machine::released))]
 pub fn release(lines: &mut [u32], links: &[u32], dx: u32, last: u32, i: u32)
     ensures { lines.new ≡ released dx lines.old links.now last i }
 {
-    if i == last {
-        return;
+    if i != last {
+        move_line(lines, links, dx, last, i);
     }
-    move_line(lines, links, dx, last, i);
 }

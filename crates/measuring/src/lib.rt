@@ -8,10 +8,10 @@ ghost use Rattle.scope.specs.Area.{points, area, twos_complement, any_above};
 ghost use Rattle.measuring.specs.Ringed.{area_in, Turned};
 
 use area::sum_up;
-use lent::put;
-use std::num::{wrapping_add_u64, wrapping_sub_u64};
+use lent::{high_word, low_word, put};
 
 // What a walk over a ring's points finds.
+// Kept: the area is the ring's whether a coordinate is above the limit or not, so an Option of it would tell less.
 #[derive(Clone, Copy)]
 pub struct Found {
     // whether a coordinate is above the limit
@@ -26,7 +26,7 @@ pub fn measure(ring: &[u16]) -> Found
     ensures { (result.over ≡ any_above coordinate_limit ring.now) × (result.area ≡ twos_complement (area (points ring.now))) }
 {
     let sums = sum_up(ring);
-    let area = wrapping_sub_u64(sums.gained, sums.lost);
+    let area = sums.gained.wrapping_sub(sums.lost);
     Found {
         over: sums.over,
         area,
@@ -45,17 +45,16 @@ pub fn area_of(points: &[u16], first: u32, count: u32) -> u64
     if points.len() < end {
         return 0;
     }
-    let found = measure(&points[start..end]);
-    found.area
+    measure(&points[start..end]).area
 }
 
 // An area in two's complement with what the step from one point to the next adds to it.
 pub fn turned(area: u64, x: u32, y: u32, next_x: u32, next_y: u32) -> u64
     ensures { Turned area (record { x = x; y = y }) (record { x = next_x; y = next_y }) result }
 {
-    let gained = (y as u64) * (next_x as u64);
-    let lost = (x as u64) * (next_y as u64);
-    wrapping_sub_u64(wrapping_add_u64(area, gained), lost)
+    let gained = u64::from(y) * u64::from(next_x);
+    let lost = u64::from(x) * u64::from(next_y);
+    area.wrapping_add(gained).wrapping_sub(lost)
 }
 
 // Stores a number of 64 bits as two words, low word first, from word `at` on. Past the end nothing is stored.
@@ -63,7 +62,7 @@ pub fn put_area(directory: &mut [u32], at: usize, area: u64)
     ensures { directory.new ≡ sets directory.old at (area % 2 ^ 32 ∷ area / 2 ^ 32 ∷ []) }
 {
     if at < directory.len() {
-        put(directory, at, (area % 4294967296) as u32);
-        put(directory, at + 1, (area / 4294967296) as u32);
+        put(directory, at, low_word(area));
+        put(directory, at + 1, high_word(area));
     }
 }

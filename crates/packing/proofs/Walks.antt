@@ -1,20 +1,18 @@
--- The two loops. The walk's invariant has two parts, of the points and of the records: storing what the links not yet walked give leaves what storing the
--- whole walk leaves, and a turn stores what one link gives. The part of the points is for any words of a link, two each. Clearing has cleared the words so
--- far. Assumes nothing.
+-- The walk along the links. The loop's invariant has two parts, of the points and of the records: storing what the links not yet walked give leaves what
+-- storing the whole walk leaves, and a turn stores what one link gives. The part of the points is for any words of a link, two each. Assumes nothing.
 use mathlib.Core.Path.{◌≡◌, refl, sym, ap, ◌∙◌}
 use mathlib.Core.List.{List, ◌++◌}
-use Prim.Native.Nat.{ℕ, zero, suc, ◌+◌, ◌-◌, ◌*◌, ◌≤◌, ◌<◌}
+use Prim.Native.Nat.{ℕ, suc, ◌+◌, ◌-◌, ◌*◌, ◌≤◌, ◌<◌}
 use native.Mathlib.Numerals.{add-one}
 use native.Mathlib.Omega.{arith}
 use lib.IntN.{ℤ, pos, ◌+ℤ◌}
-use lib.ListN.{length, set}
-use lib.Seq.{sets, length-sets}
+use lib.ListN.{length}
+use lib.Seq.{sets}
 use borrow.Author.Tests.{lt-ltb, le-ltb}
 use Rattle.machine.specs.Machine.{mark, link_next}
 use Rattle.machine.specs.Walk.{walk_words, link_twist, walk_by, record_words, walk_records}
 use Rattle.machine.proofs.Walking.{by-no-area}
-use Rattle.packing.specs.Cleared.{cleared}
-use Rattle.packing.proofs.Laws.{stores-follow, cleared-none, clearing-keeps-the-length, a-table-is-cleared-whole, one_word_more}
+use Rattle.packing.proofs.Laws.{stores-follow}
 
 -- ---- a run of stores, part of which is made
 
@@ -22,10 +20,6 @@ module _ {Word : Type 0} where
   -- storing the rest from word at on leaves what storing the whole from word 0 on in the table at the start leaves
   pub record Stored (start whole : List Word) (at : ℕ) (table rest : List Word) : Type 0 where
     pub leaves : sets start 0 whole ≡ sets table at rest
-
-  pub stored-room : {start whole : List Word} {at : ℕ} {table rest : List Word} → Stored start whole at table rest → length table ≡ length start
-  stored-room {start} {whole} {at} {table} {rest} s =
-      sym (length-sets table at rest) ∙ sym (ap length s.leaves) ∙ length-sets start 0 whole
 
   stored_next : {start whole : List Word} {at : ℕ} {table rest : List Word} → Stored start whole at table rest →
       (words after : List Word) (table' : List Word) (size : ℕ) → length words ≡ size → rest ≡ words ++ after → table' ≡ sets table at words →
@@ -38,17 +32,15 @@ module _ {Word : Type 0} where
 -- words gives the words of a link's point
 module _ {Word : Type 0} (words : ℕ → List Word) (links : List ℕ) where
   module _ (first k : ℕ) where
-    points-along : (left : ℕ) → 0 < left → link_next links k < mark →
-        walk_words words links first k left ≡ words k ++ walk_words words links first (link_next links k) (left - 1)
+    points-along : {left : ℕ} (rest : ℕ) → left ≡ suc rest → link_next links k < mark →
+        walk_words words links first k left ≡ words k ++ walk_words words links first (link_next links k) rest
     unfolding walk_words
-    points-along zero more h = absurd (omega arith)
-    points-along (suc n) more h = let fewer : suc n - 1 ≡ n = omega arith in rw (lt-ltb _ _ h, fewer)
+    points-along rest more h = rw (more, lt-ltb _ _ h)
 
-    points-around : (left : ℕ) → 0 < left → mark ≤ link_next links k →
-        walk_words words links first k left ≡ words k ++ (words first ++ walk_words words links (link_next links k - mark) (link_next links k - mark) (left - 1))
+    points-around : {left : ℕ} (rest : ℕ) → left ≡ suc rest → mark ≤ link_next links k →
+        walk_words words links first k left ≡ words k ++ (words first ++ walk_words words links (link_next links k - mark) (link_next links k - mark) rest)
     unfolding walk_words
-    points-around zero more h = absurd (omega arith)
-    points-around (suc n) more h = let fewer : suc n - 1 ≡ n = omega arith in rw (le-ltb _ _ h, fewer)
+    points-around rest more h = rw (more, le-ltb _ _ h)
 
   -- the ring began at link first; left links are to be walked, from link k on, and their points go to word at and on
   pub record PointsLeft (start : List Word) (head count : ℕ) (points : List Word) (first k at left : ℕ) : Type 0 where
@@ -66,39 +58,38 @@ module _ {Word : Type 0} {words : ℕ → List Word} {links : List ℕ} {start :
 
   module _ (two : (k : ℕ) → length (words k) ≡ 2) where
     -- a link that is not the last of its ring
-    pub points-next : {points' : List Word} {next : ℕ} → 0 < left → points' ≡ sets points at (words k) → next ≡ link_next links k → next < mark →
-        PointsLeft words links start head count points' first next (at + 2) (left - 1)
-    points-next {points'} {next} more e f h =
+    pub points-next : {points' : List Word} {next : ℕ} (rest : ℕ) → left ≡ suc rest → points' ≡ sets points at (words k) → next ≡ link_next links k → next < mark →
+        PointsLeft words links start head count points' first next (at + 2) rest
+    points-next {points'} {next} rest more e f h =
         record {
           room = omega arith;
-          so_far = rw f (stored_next s.so_far (words k) _ points' 2 (two k) (points-along words links first k left more (rw f at h)) e);
+          so_far = rw f (stored_next s.so_far (words k) _ points' 2 (two k) (points-along words links first k rest more (rw f at h)) e);
         }
 
     -- the last link of its ring
-    pub points-closed : {points' points'' : List Word} {next : ℕ} → 0 < left → points' ≡ sets points at (words k) → next ≡ link_next links k → mark ≤ next →
+    pub points-closed : {points' points'' : List Word} {next : ℕ} (rest : ℕ) → left ≡ suc rest → points' ≡ sets points at (words k) → next ≡ link_next links k → mark ≤ next →
         points'' ≡ sets points' (at + 2) (words first) →
-        PointsLeft words links start head count points'' (next - mark) (next - mark) (at + 2 + 2) (left - 1)
-    points-closed {points'} {points''} {next} more e f h g =
-        let last = stored_next s.so_far (words k) _ points' 2 (two k) (points-around words links first k left more (rw f at h)) e in
-        record { room = omega arith; so_far = rw f (stored_next last (words first) _ points'' 2 (two first) refl g) }
+        PointsLeft words links start head count points'' (next - mark) (next - mark) (at + 4) rest
+    points-closed {points'} {points''} {next} rest more e f h g =
+        let last = stored_next s.so_far (words k) _ points' 2 (two k) (points-around words links first k rest more (rw f at h)) e in
+        let both : at + 4 ≡ at + 2 + 2 = omega arith in
+        record { room = omega arith; so_far = rw (both, f) (stored_next last (words first) _ points'' 2 (two first) refl g) }
 
 -- ---- the directory
 
 -- words gives a record, of as many words as each says
 module _ (words : ℕ → ℕ → ℤ → List ℕ) (each : ℕ) (dx : ℕ) (links : List ℕ) where
   module _ (h first size : ℕ) (a : ℤ) (k : ℕ) where
-    records-along : (left : ℕ) → 0 < left → link_next links k < mark →
-        walk_by words dx links h first size a k left ≡ walk_by words dx links h first (suc size) (a +ℤ link_twist dx links k (link_next links k)) (link_next links k) (left - 1)
+    records-along : {left : ℕ} (rest : ℕ) → left ≡ suc rest → link_next links k < mark →
+        walk_by words dx links h first size a k left ≡ walk_by words dx links h first (suc size) (a +ℤ link_twist dx links k (link_next links k)) (link_next links k) rest
     unfolding walk_by
-    records-along zero more low = absurd (omega arith)
-    records-along (suc n) more low = let fewer : suc n - 1 ≡ n = omega arith in rw (lt-ltb _ _ low, fewer)
+    records-along rest more low = rw (more, lt-ltb _ _ low)
 
-    records-around : (left : ℕ) → 0 < left → mark ≤ link_next links k →
+    records-around : {left : ℕ} (rest : ℕ) → left ≡ suc rest → mark ≤ link_next links k →
         walk_by words dx links h first size a k left
-        ≡ words first (size + 2) (a +ℤ link_twist dx links k h) ++ walk_by words dx links (link_next links k - mark) (first + size + 2) 0 (pos 0) (link_next links k - mark) (left - 1)
+        ≡ words first (size + 2) (a +ℤ link_twist dx links k h) ++ walk_by words dx links (link_next links k - mark) (first + size + 2) 0 (pos 0) (link_next links k - mark) rest
     unfolding walk_by
-    records-around zero more high = absurd (omega arith)
-    records-around (suc n) more high = let fewer : suc n - 1 ≡ n = omega arith in rw (le-ltb _ _ high, fewer)
+    records-around rest more high = rw (more, le-ltb _ _ high)
 
   -- the ring began at link h, its first point has number first, and it has had size links and the area a; left links are to be walked, from link k on, and
   -- their records go to word at and on
@@ -117,26 +108,26 @@ module _ {words : ℕ → ℕ → ℤ → List ℕ} {each : ℕ} {dx : ℕ} {lin
   records-end done = let none : left ≡ 0 = omega arith in sym (rw none at s.so_far.leaves)
 
   -- a link that is not the last of its ring
-  pub records-next : {next : ℕ} → 0 < left → next ≡ link_next links k → next < mark →
-      RecordsLeft words each dx links start head count directory h first (size + 1) (a +ℤ link_twist dx links k next) next at (left - 1)
-  records-next {next} more f low =
+  pub records-next : {next : ℕ} (rest : ℕ) → left ≡ suc rest → next ≡ link_next links k → next < mark →
+      RecordsLeft words each dx links start head count directory h first (size + 1) (a +ℤ link_twist dx links k next) next at rest
+  records-next {next} rest more f low =
       record {
         room = omega arith;
         few = omega arith;
-        so_far = record { leaves = s.so_far.leaves ∙ rw (records-along words each dx links h first size a k left more (rw f at low), f, add-one) };
+        so_far = record { leaves = s.so_far.leaves ∙ rw (records-along words each dx links h first size a k rest more (rw f at low), f, add-one) };
       }
 
   -- the last link of its ring
-  pub records-closed : {directory' : List ℕ} {next : ℕ} → each ≤ 6 → ((f count : ℕ) (z : ℤ) → length (words f count z) ≡ each) → 0 < left → next ≡ link_next links k → mark ≤ next →
+  pub records-closed : {directory' : List ℕ} {next : ℕ} (rest : ℕ) → each ≤ 6 → ((f count : ℕ) (z : ℤ) → length (words f count z) ≡ each) → left ≡ suc rest → next ≡ link_next links k → mark ≤ next →
       directory' ≡ sets directory at (words first (size + 2) (a +ℤ link_twist dx links k h)) →
-      RecordsLeft words each dx links start head count directory' (next - mark) (first + (size + 2)) 0 (pos 0) (next - mark) (at + each) (left - 1)
-  records-closed {directory'} {next} most has more f high g =
+      RecordsLeft words each dx links start head count directory' (next - mark) (first + (size + 2)) 0 (pos 0) (next - mark) (at + each) rest
+  records-closed {directory'} {next} rest most has more f high g =
       let sum : first + (size + 2) ≡ first + size + 2 = omega arith in
       let w = words first (size + 2) (a +ℤ link_twist dx links k h) in
       record {
         room = omega arith;
         few = omega arith;
-        so_far = rw (f, sum) (stored_next s.so_far w _ directory' each (has first (size + 2) (a +ℤ link_twist dx links k h)) (records-around words each dx links h first size a k left more (rw f at high)) g);
+        so_far = rw (f, sum) (stored_next s.so_far w _ directory' each (has first (size + 2) (a +ℤ link_twist dx links k h)) (records-around words each dx links h first size a k rest more (rw f at high)) g);
       }
 
 -- records without areas
@@ -146,36 +137,3 @@ short_words first count a = record_words first count
 pub short-end : (links start : List ℕ) {directory : List ℕ} (head count : ℕ) → directory ≡ sets start 0 (walk_by short_words 0 links head 0 0 (pos 0) head count) → directory ≡ sets start 0 (walk_records links 0 0 head count)
 unfolding walk_records
 short-end links start head count e = e ∙ ap (sets start 0) (by-no-area record_words links 0 0 head 0 0 0 (pos 0) (pos 0) head count)
-
--- ---- clearing
-
--- clearing up to end is clearing as many words as asked, and the first i words are cleared
-pub record ClearedTo (start : List ℕ) (words end : ℕ) (table : List ℕ) (i : ℕ) : Type 0 where
-  pub room : end ≤ length start
-  pub enough : cleared start end ≡ cleared start words
-  pub within : i ≤ end
-  pub so_far : table ≡ cleared start i
-
-module _ {start : List ℕ} {words end : ℕ} where
-  -- as many words as asked
-  pub cleared-asked : words < length start → end ≡ words → ClearedTo start words end start 0
-  cleared-asked h e = record { room = omega arith; enough = rw e; within = omega arith; so_far = sym (cleared-none start) }
-
-  -- all words
-  pub cleared-all : length start ≤ words → end ≡ length start → ClearedTo start words end start 0
-  cleared-all h e = record {
-    room = omega arith;
-    enough = a-table-is-cleared-whole start end (omega arith) ∙ sym (a-table-is-cleared-whole start words h);
-    within = omega arith;
-    so_far = sym (cleared-none start);
-  }
-
-  module _ {table : List ℕ} {i : ℕ} (s : ClearedTo start words end table i) where
-    pub cleared-room : length table ≡ length start
-    cleared-room = ap length s.so_far ∙ clearing-keeps-the-length start i
-
-    pub cleared-next : i < end → ClearedTo start words end (set table i 0) (i + 1)
-    cleared-next h = record { room = s.room; enough = s.enough; within = omega arith; so_far = rw s.so_far (one_word_more start i) }
-
-    pub cleared-end : end ≤ i → table ≡ cleared start words
-    cleared-end h = let all : i ≡ end = omega (arith, s.within) in s.so_far ∙ rw all s.enough

@@ -15,11 +15,12 @@ use cells::{Point, indexed_point};
 use lent::{MARK, put, word};
 use limits::{RECORD_STRIDE, SHORT_STRIDE};
 use measuring::{put_area, turned};
-use packing::{next_link, put_record};
+use packing::{Walk, next_link, put_record};
 use scope::Level;
 use smoothing::{Placement, line_vertex};
 
 // The start point of link `k`.
+#[tactic(auto, unfolding(machine::specs::Walk::start_point, machine::specs::Machine::link_point))]
 fn start_of(links: &[u32], dx: u32, k: u32) -> Point
     requires { 2 * (dx + 1) < 2 ^ 32 }
     ensures { point_of result ≡ start_point dx links.now k }
@@ -28,6 +29,7 @@ fn start_of(links: &[u32], dx: u32, k: u32) -> Point
 }
 
 // Stores the line's vertex at a point as two words, from word `at` on: x, then y.
+#[tactic(auto, unfolding(scope::specs::Tables::vertex_words, smoothing::specs::Values::vertex_of))]
 fn put_vertex(
     values: &[f64],
     level: Level,
@@ -57,6 +59,7 @@ fn stepped(area: u64, from: Point, to: Point) -> u64
 
 // Stores the record of a line as six words, from word `at` on: the number of its first point, how many points it has, its class, no owner, and the area of its
 // ring.
+#[tactic(auto, unfolding(machine::specs::Walk::record_words))]
 fn put_line(directory: &mut [u32], at: usize, first: u64, count: u64, area: u64)
     requires { at < 2 ^ 35 }
     ensures { directory.new ≡ sets directory.old at (record_words first count ++ (area % 2 ^ 32 ∷ area / 2 ^ 32 ∷ [])) }
@@ -68,6 +71,7 @@ fn put_line(directory: &mut [u32], at: usize, first: u64, count: u64, area: u64)
 // Walks `count` links from link `head` on. The vertices of the lines are stored one after the other from word 0 on, two words a vertex: one for each link,
 // and at a ring's end its first again. There the ring's record is stored too, one record after the other from word 0 on, with the area of the ring as its
 // links have it, before any vertex was smoothed. Past the end of a table nothing is stored.
+// Kept: `write_rings` of `packing` has this loop too, and says there why one walk for both is no plainer.
 pub fn write_lines(
     values: &[f64],
     level: Level,
@@ -85,42 +89,43 @@ pub fn write_lines(
     ensures points_after { points.new ≡ sets points.old 0 (walk_words (vertex_at smooth values.now level.threshold dx dy (placing_of placement) links.now) links.now head head count) }
     ensures directory_after { directory.new ≡ sets directory.old 0 (walk_measured dx links.now head 0 0 (pos 0) head count) }
 {
-    let mut first = head;
-    let mut k = head;
+    let mut walk = Walk::begin(head);
     let mut point = start_of(links, dx, head);
     let mut area: u64 = 0;
-    let mut at: usize = 0;
-    let mut first_point: u64 = 0;
-    let mut size: u64 = 0;
-    let mut record_at: usize = 0;
-    let mut left = count;
-    while 0 < left {
-        left -= 1;
-        put_vertex(values, level, dx, dy, smooth, placement, point, points, at);
-        at += 2;
-        let next = next_link(links, k);
+    for _ in 0..count {
+        put_vertex(
+            values, level, dx, dy, smooth, placement, point, points, walk.at,
+        );
+        let next = next_link(links, walk.k);
         if next < MARK {
             let to = start_of(links, dx, next);
-            let sum = stepped(area, point, to);
-            area = sum;
-            size += 1;
-            k = next;
+            area = stepped(area, point, to);
             point = to;
+            walk = walk.along(next);
         } else {
-            let begin = start_of(links, dx, first);
-            put_vertex(values, level, dx, dy, smooth, placement, begin, points, at);
-            at += 2;
-            let ring_points = size + 2;
+            let begin = start_of(links, dx, walk.first);
+            put_vertex(
+                values,
+                level,
+                dx,
+                dy,
+                smooth,
+                placement,
+                begin,
+                points,
+                walk.at + 2,
+            );
             let whole = stepped(area, point, begin);
-            put_line(directory, record_at, first_point, ring_points, whole);
-            record_at += RECORD_STRIDE;
-            first_point += ring_points;
-            size = 0;
+            put_line(
+                directory,
+                walk.record_at,
+                walk.first_point,
+                walk.size + 2,
+                whole,
+            );
+            walk = walk.around(next - MARK, RECORD_STRIDE);
+            point = start_of(links, dx, walk.k);
             area = 0;
-            k = next - MARK;
-            first = k;
-            let start = start_of(links, dx, k);
-            point = start;
         }
     }
 }

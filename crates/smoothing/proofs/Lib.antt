@@ -4,3 +4,4 @@ pub mod HalfStep
 pub mod Moving
 pub mod Placing
 pub mod Explained
+pub mod Found

@@ -1,16 +1,17 @@
 // A line's vertex as f64: smoothed or not, then placed. Each operation is rounded once, left to right, and every function is total.
 #![tactic(auto)]
 
-ghost use Rattle.std.specs.Prelude.{◌≡◌, cond, ◌-◌, ◌/◌};
+ghost use Rattle.std.specs.Prelude.{◌≡◌, cond, Some, None, ◌-◌, ◌/◌};
 ghost use Rattle.scope.specs.Smoothing.{moved, sample_at, moves, real_of, placing, placed_at, line_vertex};
 ghost use Rattle.smoothing.specs.Coordinates.{fraction, moved_by, coordinate_moves, vertex_moves};
 ghost use Rattle.smoothing.specs.Values.{placing_of, vertex_of};
 
 use cells::Point;
+use lent::value_or;
 use scope::Level;
 
 // Where a line is to stand: the place of the point (0, 0), and how far apart neighbouring columns and rows are.
-#[derive(Clone, Copy)]
+#[derive(Clone, Copy, PartialEq)]
 pub struct Placement {
     pub x_origin: f64,
     pub y_origin: f64,
@@ -47,7 +48,7 @@ pub struct VertexMoves {
 fn real_of(doubled: u32) -> f64
     ensures { result ≡ real_of doubled }
 {
-    (doubled as f64) * 0.5
+    f64::from(doubled) * 0.5
 }
 
 // The sample in column `x` and row `y`; not a number where there is none at its place.
@@ -55,32 +56,15 @@ fn sample_at(values: &[f64], dx: u32, x: u32, y: u32) -> f64
     ensures { result ≡ sample_at values.now dx x y }
 {
     let i = (y as usize) * (dx as usize) + (x as usize);
-    if i < values.len() {
-        values[i]
-    } else {
-        0.0 / 0.0
-    }
-}
-
-// A coordinate that was halfway between two samples, moved to where the threshold lies between them.
-fn moved(threshold: f64, v0: f64, v1: f64, x: f64) -> f64
-    ensures { result ≡ moved threshold v0 v1 x }
-{
-    x + (threshold - v0) / (v1 - v0) - 0.5
+    value_or(values, i, f64::NAN)
 }
 
 // Whether smoothing moves a doubled coordinate: it is whole, above 0 and below the side.
+#[tactic(auto, unfolding(scope::specs::Smoothing::moves))]
 fn moves(side: u32, doubled: u32) -> bool
     ensures { result ≡ moves side doubled }
 {
-    doubled % 2 == 0 && 0 < doubled && (doubled as u64) < 2 * (side as u64)
-}
-
-// The column or row before one, or the first.
-fn previous(n: u32) -> u32
-    ensures { result ≡ n - 1 }
-{
-    if 0 < n { n - 1 } else { 0 }
+    doubled % 2 == 0 && 0 < doubled && u64::from(doubled) < 2 * u64::from(side)
 }
 
 // The column and the row that a point of doubled coordinates lies in.
@@ -98,8 +82,8 @@ fn before_in_row(place: Point) -> Point
     ensures { (result.x ≡ place.x - 1) × (result.y ≡ place.y) }
 {
     Point {
-        x: previous(place.x),
-        y: place.y,
+        x: place.x.saturating_sub(1),
+        ..place
     }
 }
 
@@ -108,8 +92,37 @@ fn before_in_column(place: Point) -> Point
     ensures { (result.x ≡ place.x) × (result.y ≡ place.y - 1) }
 {
     Point {
-        x: place.x,
-        y: previous(place.y),
+        y: place.y.saturating_sub(1),
+        ..place
+    }
+}
+
+// How far the threshold lies on the way from one sample to the next.
+#[tactic(auto, unfolding(crate::specs::Coordinates::fraction))]
+fn fraction(threshold: f64, v0: f64, v1: f64) -> f64
+    ensures { result ≡ fraction threshold v0 v1 }
+{
+    (threshold - v0) / (v1 - v0)
+}
+
+// The fraction by which smoothing moves a doubled coordinate, between the sample at `from` and the one at `to`; none where the coordinate stays.
+fn fraction_at(
+    values: &[f64],
+    level: Level,
+    dx: u32,
+    side: u32,
+    doubled: u32,
+    from: Point,
+    to: Point,
+) -> Option<f64>
+    ensures { result ≡ cond (moves side doubled) (Some (fraction level.threshold (sample_at values.now dx from.x from.y) (sample_at values.now dx to.x to.y))) None }
+{
+    if moves(side, doubled) {
+        let v0 = sample_at(values, dx, from.x, from.y);
+        let v1 = sample_at(values, dx, to.x, to.y);
+        Some(fraction(level.threshold, v0, v1))
+    } else {
+        None
     }
 }
 
@@ -126,25 +139,29 @@ fn smoothed(
     ensures { result ≡ cond (moves side doubled) (moved level.threshold (sample_at values.now dx from.x from.y) (sample_at values.now dx to.x to.y) (real_of doubled)) (real_of doubled) }
 {
     let x = real_of(doubled);
-    if moves(side, doubled) {
-        let v0 = sample_at(values, dx, from.x, from.y);
-        let v1 = sample_at(values, dx, to.x, to.y);
-        return moved(level.threshold, v0, v1, x);
+    match fraction_at(values, level, dx, side, doubled, from, to) {
+        Some(fraction) => x + fraction - 0.5,
+        None => x,
     }
-    x
 }
+
+// The placement that moves nothing.
+const IN_PLACE: Placement = Placement {
+    x_origin: 0.0,
+    y_origin: 0.0,
+    x_step: 1.0,
+    y_step: 1.0,
+};
 
 // Whether a placement moves anything: its origin differs from (0, 0) or its step from (1, 1).
 fn places(placement: Placement) -> bool
     ensures { result ≡ placing (placing_of placement) }
 {
-    placement.x_origin != 0.0
-        || placement.y_origin != 0.0
-        || placement.x_step != 1.0
-        || placement.y_step != 1.0
+    placement != IN_PLACE
 }
 
 // A vertex in its place.
+#[tactic(auto, unfolding(scope::specs::Smoothing::placed_at, crate::specs::Values::placing_of, crate::specs::Values::vertex_of))]
 fn placed_at(placement: Placement, vertex: Vertex) -> Vertex
     ensures { vertex_of result ≡ placed_at (placing_of placement) (vertex_of vertex) }
 {
@@ -159,6 +176,7 @@ fn placed_at(placement: Placement, vertex: Vertex) -> Vertex
 }
 
 // The vertex of a line at a point of doubled coordinates: smoothed where that is asked, then placed.
+#[tactic(auto, unfolding(scope::specs::Smoothing::line_vertex, scope::specs::Smoothing::smoothed, scope::specs::Smoothing::unsmoothed, crate::specs::Values::vertex_of))]
 pub fn line_vertex(
     values: &[f64],
     level: Level,
@@ -192,24 +210,20 @@ pub fn line_vertex(
     }
 }
 
-// How far the threshold lies on the way from one sample to the next.
-fn fraction(threshold: f64, v0: f64, v1: f64) -> f64
-    ensures { result ≡ fraction threshold v0 v1 }
-{
-    (threshold - v0) / (v1 - v0)
-}
-
 // A coordinate that moves by a fraction, if that is a number.
+#[tactic(auto, unfolding(crate::specs::Coordinates::moved_by))]
 fn moved_by(fraction: f64) -> Coordinate
     ensures { result ≡ moved_by fraction }
 {
-    if fraction != fraction {
-        return Coordinate::NotANumber;
+    if fraction.is_nan() {
+        Coordinate::NotANumber
+    } else {
+        Coordinate::Moved(fraction)
     }
-    Coordinate::Moved(fraction)
 }
 
 // What smoothing does to a doubled coordinate: where it moves it lies between the sample at `from` and the one at `to`.
+#[tactic(auto, unfolding(crate::specs::Coordinates::coordinate_moves))]
 fn coordinate_moves(
     values: &[f64],
     level: Level,
@@ -221,15 +235,14 @@ fn coordinate_moves(
 ) -> Coordinate
     ensures { result ≡ coordinate_moves side doubled (fraction level.threshold (sample_at values.now dx from.x from.y) (sample_at values.now dx to.x to.y)) }
 {
-    if moves(side, doubled) {
-        let v0 = sample_at(values, dx, from.x, from.y);
-        let v1 = sample_at(values, dx, to.x, to.y);
-        return moved_by(fraction(level.threshold, v0, v1));
+    match fraction_at(values, level, dx, side, doubled, from, to) {
+        Some(fraction) => moved_by(fraction),
+        None => Coordinate::Stayed,
     }
-    Coordinate::Stayed
 }
 
 // What smoothing does to the vertex at a point of doubled coordinates.
+#[tactic(auto, unfolding(crate::specs::Coordinates::vertex_moves))]
 pub fn vertex_moves(values: &[f64], level: Level, dx: u32, dy: u32, point: Point) -> VertexMoves
     ensures { result ≡ vertex_moves values.now level.threshold dx dy (record { x = point.x; y = point.y }) }
 {

@@ -12,6 +12,7 @@ use limits::{RECORD_STRIDE, SHORT_STRIDE};
 use measuring::{area_of, put_area};
 
 // Stores record `k`, whose first four words stand among records of four, as a whole record among whole records. The words of its ring are read from the points.
+#[tactic(auto, unfolding(crate::specs::Spread::spread_record, scope::specs::Area::area_words, scope::specs::Area::low_word, scope::specs::Area::high_word, scope::specs::Room::directory_words, scope::specs::Limits::record_stride))]
 fn spread_record(points: &[u16], directory: &mut [u32], k: usize)
     requires { k < 2 ^ 32 }
     ensures { directory.new ≡ sets directory.old (directory_words k) (spread_record points.now directory.old k) }
@@ -35,9 +36,7 @@ pub fn spread(points: &[u16], directory: &mut [u32], n: usize)
     requires { (n < 2 ^ 32) × (directory_words n ≤ length directory.old) }
     ensures { directory.new ≡ written (spread_from points.now directory.old 0 n) directory.old }
 {
-    let mut k = n;
-    while 0 < k {
-        k -= 1;
+    for k in (0..n).rev() {
         spread_record(points, directory, k);
     }
 }

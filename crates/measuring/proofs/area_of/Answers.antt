@@ -11,8 +11,8 @@ returns-then-count-eq0 c = no-points _ _ _ c.if-count-eq0.true
 pub returns-then-points-end : goal.returns-then-points-end
 returns-then-points-end c = past_points _ _ _ (omega arith)
 
-pub measure-found-requires : goal.measure-found-requires
-measure-found-requires c =
+pub measure-requires : goal.measure-requires
+measure-requires c =
     let args = c.args in
     let words = part_length args.points.now args.first args.count (omega arith) in
     (omega (arith, words), omega (arith, words), omega (arith, words))
@@ -22,4 +22,4 @@ unfolding words_in
 returns c =
     let args = c.args in
     let some : 2 * args.first + 2 * args.count - 2 * args.first ≡ 2 * args.count = omega arith in
-    c.measure-found.ensures.1 ∙ rw some (ap twos_complement (sym (area-within args.points.now args.first args.count (omega arith))))
+    c.measure.ensures.1 ∙ rw some (ap twos_complement (sym (area-within args.points.now args.first args.count (omega arith))))

@@ -8,5 +8,5 @@ pub returns : goal.returns
 returns c =
     let sums = c.sum_up-sums in (
       sums.ensures.over-is,
-      wrapped-difference sums.result.gained sums.result.lost _ (omega arith) (omega (arith, c.wrapping_sub_u64-area.ensures)) ∙ ap twos_complement (sym sums.ensures.area-is),
+      wrapped-difference sums.result.gained sums.result.lost _ (omega arith) (omega arith) ∙ ap twos_complement (sym sums.ensures.area-is),
     )

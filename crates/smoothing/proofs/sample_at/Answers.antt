@@ -1,11 +1,8 @@
--- `smoothing::sample_at` meets its contract: a sample's place fits a word, and past the values 0 / 0 is not a number. Assumes nothing.
-use mathlib.Core.Path.{sym}
+-- `smoothing::sample_at` meets its contract: a sample's place fits a word, and past the values stands none, by its bits. Assumes nothing.
 use Prim.Native.Nat.{ℕ, ◌*◌, ◌^◌, ◌≤◌, ◌<◌}
 use native.Mathlib.Nat.{mul-le-mul}
 use native.Mathlib.Omega.{arith}
-use lib.ListN.{get_or-eq_default}
-use lib.Ieee.{nan, of_bits, div}
-use borrow.Author.Rules.{rules}
+use lib.Ieee.{of_bits}
 use Rattle.scope.specs.Smoothing.{sample_at}
 use Rattle.smoothing.proofs.sample_at.Goals as goal
 
@@ -22,10 +19,6 @@ overflow_mul-i c = omega (arith, rows_before c.args.y c.args.dx (omega arith) (o
 pub overflow_add-i : goal.overflow_add-i
 overflow_add-i c = omega (arith, rows_before c.args.y c.args.dx (omega arith) (omega arith))
 
-pub returns-then-i-values : goal.returns-then-i-values
-unfolding sample_at
-returns-then-i-values c = search rules
-
-pub returns-else-i-values : goal.returns-else-i-values
-unfolding sample_at of_bits div
-returns-else-i-values c = sym (get_or-eq_default c.args.values.now nan c.if-i-values.false)
+pub returns : goal.returns
+unfolding sample_at of_bits
+returns c = c.value_or.ensures
