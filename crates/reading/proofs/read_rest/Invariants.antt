@@ -8,5 +8,3 @@ use Rattle.reading.proofs.read_rest.Given as goal
 abbrev pub invariant-loop-at : goal.invariant-loop-at
 invariant-loop-at l = Begun l.text l.from l.begun l.end l.value l.at
 
-abbrev pub decreases-loop-at : goal.decreases-loop-at
-decreases-loop-at l = length l.text - l.at

@@ -7,5 +7,3 @@ use Rattle.reading.proofs.read_values.Given as goal
 abbrev pub invariant-loop-k : goal.invariant-loop-k
 invariant-loop-k l = Walked l.text l.from l.dx l.count l.initial.values l.at l.column l.k l.values
 
-abbrev pub decreases-loop-k : goal.decreases-loop-k
-decreases-loop-k l = l.count - l.k
