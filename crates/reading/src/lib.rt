@@ -40,6 +40,7 @@ struct Head {
 }
 
 // Whether a number goes on with a byte: it is a digit that follows no leading zero, and the number stays within the limit.
+#[tactic(auto, unfolding(crate::specs::Parser::goes_on, crate::specs::Parser::is_digit, scope::specs::Program::number_limit))]
 fn goes_on(value: u32, b: u8) -> bool
     requires { value ≤ number_limit }
     ensures { result ≡ goes_on value b }
@@ -96,13 +97,15 @@ fn read_head(text: &[u8]) -> Option<Head>
 }
 
 // Whether a terrain with this side is read.
+#[tactic(auto, unfolding(crate::specs::Parser::side_fits, scope::specs::Program::program_side))]
 fn side_fits(side: usize) -> bool
     ensures { result ≡ side_fits side }
 {
-    0 < side && side <= SIDE
+    (1..=SIDE).contains(&side)
 }
 
 // Whether a terrain of these sides is read.
+#[tactic(auto, unfolding(crate::specs::Parser::sides_fit))]
 fn sides_fit(dx: usize, dy: usize) -> bool
     ensures { result ≡ sides_fit dx dy }
 {
@@ -110,6 +113,7 @@ fn sides_fit(dx: usize, dy: usize) -> bool
 }
 
 // The byte that ends the number in a column: a newline in the last column, and a space before.
+#[tactic(auto, unfolding(crate::specs::Parser::end_of))]
 fn end_of(dx: usize, column: usize) -> u8
     requires { column < dx }
     ensures { result ≡ end_of dx column }
@@ -118,6 +122,7 @@ fn end_of(dx: usize, column: usize) -> u8
 }
 
 // The column of the number after the one in a column.
+#[tactic(auto, unfolding(crate::specs::Parser::column_after))]
 fn column_after(dx: usize, column: usize) -> usize
     requires { column < dx }
     ensures { result ≡ column_after dx column }
