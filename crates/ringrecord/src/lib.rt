@@ -36,6 +36,7 @@ pub struct RingRecord {
 }
 
 // The class word of a fate.
+#[tactic(auto, unfolding(scope::specs::Contour::class_word, crate::specs::Records::fate_of))]
 pub fn class_word(fate: Fate) -> u32
     ensures { result ≡ class_word (fate_of fate) }
 {
@@ -47,6 +48,7 @@ pub fn class_word(fate: Fate) -> u32
 }
 
 // The owner word of a fate, in the record of number `k`.
+#[tactic(auto, unfolding(scope::specs::Contour::owner_word, scope::specs::Limits::no_owner, crate::specs::Records::fate_of))]
 pub fn owner_word(k: u32, fate: Fate) -> u32
     ensures { result ≡ owner_word k (fate_of fate) }
 {
@@ -58,6 +60,7 @@ pub fn owner_word(k: u32, fate: Fate) -> u32
 }
 
 // The fate that class and owner words stand for.
+#[tactic(auto, unfolding(crate::specs::Records::fate_from, scope::specs::Limits::no_owner))]
 fn fate_from(class: u32, owner: u32) -> Fate
     ensures { result ≡ fate_from class owner }
 {
@@ -70,6 +73,7 @@ fn fate_from(class: u32, owner: u32) -> Fate
 }
 
 // The area that two words stand for, low word first.
+#[tactic(auto, unfolding(scope::specs::Area::area_from, scope::specs::Area::whole_from))]
 fn area_from(low: u32, high: u32) -> i64
     ensures { result ≡ area_from low high }
 {
@@ -77,6 +81,7 @@ fn area_from(low: u32, high: u32) -> i64
 }
 
 // Record `k` of directory words.
+#[tactic(auto, unfolding(crate::specs::Records::record_in, crate::specs::Records::record_from))]
 fn record_in(directory: &[u32], k: u32) -> RingRecord
     ensures { result ≡ record_in directory.now k }
 {
@@ -103,6 +108,7 @@ fn put_words(directory: &mut [u32], k: u32, record: RingRecord)
 }
 
 // How many of the stated rings are copied, where there are so many words and records: all, or none.
+#[tactic(auto, unfolding(crate::specs::Copies::copied_rings, crate::specs::Copies::room_for, scope::specs::Room::directory_words, scope::specs::Limits::record_stride))]
 fn copied_rings(rings: u32, words: usize, records: usize) -> u32
     ensures { result ≡ copied_rings rings words records }
 {
