@@ -60,7 +60,9 @@ fn write_over(
         threshold: grid.threshold,
         rule: Rule::AtLeast,
     };
-    match contours(values, level, grid.dx, grid.dy, lines, links, points, directory) {
+    match contours(
+        values, level, grid.dx, grid.dy, lines, links, points, directory,
+    ) {
         Built::Refused(_) => 0,
         Built::Rings(rings) => write_rings(points, directory, rings, text),
     }

@@ -1,6 +1,6 @@
 -- What the answers of the steps say of the parser, and what it finds by them. Assumes nothing.
 use Rattle.std.specs.Prelude.{Some, None}
-use mathlib.Core.Path.{◌≡◌, refl, sym, ◌∙◌}
+use mathlib.Core.Path.{◌≡◌, refl, ◌∙◌}
 use mathlib.Core.Bool.{true, false}
 use mathlib.Core.List.{List, [], ◌++◌, map}
 use Prim.Native.Nat.{ℕ, ◌*◌, ◌≤◌, ◌<◌}
@@ -14,9 +14,8 @@ use Rattle.scope.specs.Tables.{written}
 use Rattle.scope.specs.Program.{number_limit, program_side}
 use Rattle.reading.specs.Parser.{found, none, number, numbers, ends_from, sides_fit, ended, headed, parsed}
 use Rattle.reading.specs.Reads.{InputRead, GotNumber, NumberRead, HeadRead, RowsRead, ValuesRead}
-use Rattle.reading.proofs.Decimals.{nothing-found, number-sound}
+use Rattle.reading.proofs.Decimals.{number-sound}
 use Rattle.reading.proofs.Inputs.{input_of, SidesFit, parsed-sound, nothing-accepted}
-use Rattle.reading.specs.declared.Terrain.{Terrain}
 use Rattle.reading.specs.declared.Number.{Number}
 use Rattle.reading.specs.declared.Head.{Head}
 

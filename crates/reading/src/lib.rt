@@ -131,7 +131,13 @@ fn column_after(dx: usize, column: usize) -> usize
 }
 
 // Reads this many values, in rows of dx, from a place on, into the table, and answers the place past them.
-fn read_values(text: &[u8], from: usize, dx: usize, count: usize, values: &mut [f64]) -> Option<usize>
+fn read_values(
+    text: &[u8],
+    from: usize,
+    dx: usize,
+    count: usize,
+    values: &mut [f64],
+) -> Option<usize>
     requires { (0 < dx) × (count ≤ length values.old) × (from ≤ length text.now) }
     ensures { ValuesRead text.now from dx count values.old result values.new }
 {

@@ -1,14 +1,9 @@
 -- `reading::read_input` meets its contract: where a step finds nothing the parser finds nothing, and past all of them it finds the input whose values the
 -- table holds. Assumes nothing.
-use mathlib.Core.Path.{◌≡◌, sym, ◌∙◌}
-use mathlib.Core.Bool.{true}
-use mathlib.Core.List.{List, []}
-use Prim.Native.Nat.{ℕ, ◌*◌, ◌≤◌}
+use mathlib.Core.Path.{sym, ◌∙◌}
 use native.Mathlib.Omega.{arith}
-use lib.ListN.{length, drop}
 use Rattle.scope.specs.Smoothing.{whole}
-use Rattle.reading.specs.Parser.{headed, sides_fit, parsed, found}
-use Rattle.reading.proofs.Inputs.{input_of, SidesFit, sides-fit}
+use Rattle.reading.proofs.Inputs.{SidesFit, sides-fit}
 use Rattle.reading.proofs.Answers.{head-found, head-none, rows-found, rows_none, count_fits, sides-refused, rows-refused, more-refused, all-parsed, faulty, copied-written, values-many, terrain}
 use Rattle.reading.proofs.read_input.Goals as goal
 use Rattle.reading.proofs.read_input.Goals.{Else-not-sides_fit}

@@ -1,10 +1,8 @@
 -- `reading::read_rest` meets its contract. The loop's invariant is `Begun`: what is left gives what the whole does. Assumes nothing.
-use mathlib.Core.Path.{◌≡◌, refl, sym, ◌∙◌}
-use mathlib.Core.Bool.{true}
+use mathlib.Core.Path.{refl, sym, ◌∙◌}
 use native.Mathlib.Omega.{arith}
 use lib.ListN.{get_or}
 use Rattle.scope.specs.Program.{number_limit}
-use Rattle.reading.specs.Parser.{goes_on}
 use Rattle.reading.specs.Reads.{GotNumber, RestRead}
 use Rattle.reading.proofs.Decimals.{GoesOn, goes-on}
 use Rattle.reading.proofs.Places.{rest-missing, rest_ended, rest-goes-on, rest-faulty}
