@@ -43,6 +43,8 @@ fn rings_in(built: Built) -> u32
     }
 }
 
+// Kept: the builds as four like functions, since of what a closure borrows and changes, here three of the tables, nothing is known after its call.
+
 // contour_rings, with a record a ring beside its words. Number 8 is given exactly where there are fewer records than rings, or fewer words than four a ring; records
 // past the rings and words past those lent stay.
 pub fn ring_records(
@@ -60,7 +62,16 @@ pub fn ring_records(
         lines.new links.new points.new directory') (rings_in result) directory.entry.now directory.exit.now records.old records.new }
 {
     let lent = lent_words(directory.len(), records.len());
-    let built = contour_rings(values, level, dx, dy, lines, links, points, &mut directory[..lent]);
+    let built = contour_rings(
+        values,
+        level,
+        dx,
+        dy,
+        lines,
+        links,
+        points,
+        &mut directory[..lent],
+    );
     let _ = records_from_words(directory, rings_in(built), records);
     built
 }
@@ -83,7 +94,18 @@ pub fn line_records(
         lines.new links.new points.new directory') (rings_in result) directory.entry.now directory.exit.now records.old records.new }
 {
     let lent = lent_words(directory.len(), records.len());
-    let built = contour_lines(values, level, dx, dy, smooth, placement, lines, links, points, &mut directory[..lent]);
+    let built = contour_lines(
+        values,
+        level,
+        dx,
+        dy,
+        smooth,
+        placement,
+        lines,
+        links,
+        points,
+        &mut directory[..lent],
+    );
     let _ = records_from_words(directory, rings_in(built), records);
     built
 }
@@ -104,7 +126,16 @@ pub fn contour_records(
         lines.new links.new points.new directory') (rings_in result) directory.entry.now directory.exit.now records.old records.new }
 {
     let lent = lent_words(directory.len(), records.len());
-    let built = contours(values, level, dx, dy, lines, links, points, &mut directory[..lent]);
+    let built = contours(
+        values,
+        level,
+        dx,
+        dy,
+        lines,
+        links,
+        points,
+        &mut directory[..lent],
+    );
     let _ = records_from_words(directory, rings_in(built), records);
     built
 }
@@ -127,7 +158,18 @@ pub fn isoband_records(
         lines.new links.new points.new directory') (rings_in result) directory.entry.now directory.exit.now records.old records.new }
 {
     let lent = lent_words(directory.len(), records.len());
-    let built = isobands(values, thresholds, rule, k, dx, dy, lines, links, points, &mut directory[..lent]);
+    let built = isobands(
+        values,
+        thresholds,
+        rule,
+        k,
+        dx,
+        dy,
+        lines,
+        links,
+        points,
+        &mut directory[..lent],
+    );
     let _ = records_from_words(directory, rings_in(built), records);
     built
 }

@@ -13,5 +13,5 @@ slice_bounds-isobands-end-2 c = lent_length _ _ c.lent_words-lent.ensures
 pub returns : goal.returns
 returns c =
     let called = c.isobands-built in
-    let over = over-words _ _ called.new.directory c.lent_words-lent.ensures called.auto.directory called.ensures (band-rings-fit _ _ _ _ _ _ _  called.ensures.answers) in
+    let over = over-words _ _ called.new.directory c.lent_words-lent.ensures called.auto.directory called.ensures (band-rings-fit _ _ _ _ _ _ _ called.ensures.answers) in
     over-records _ over refl c.rings_in.ensures c.records_from_words.ensures.1
