@@ -1,11 +1,9 @@
 -- What the steps of the program ask, and what they leave in the room of the text. The last is document 01's: the text of the input's contour, or number 12.
 -- Assumes nothing.
-use Rattle.std.specs.Prelude.{◌≡◌, false, List, ℕ, ◌*◌, ◌≤◌, Float, length}
+use Rattle.std.specs.Prelude.{Option, Some, None, ◌≡◌, false, List, ℕ, ◌*◌, ◌≤◌, Float, length}
 use Rattle.scope.specs.Tables.{written}
 use Rattle.scope.specs.GeoJson.{ring_set_refused, geo_json_text}
 use Rattle.scope.specs.Program.{program_side, Input, Accepts, program_text}
-use Rattle.contour_geojson.specs.declared.Drawn.{Drawn}
-use Rattle.contour_geojson.specs.declared.Drawn.TheVariants.{Text, Faulty}
 
 -- the bytes of the room for a text
 abbrev pub text_room : ℕ
@@ -44,6 +42,6 @@ pub record TextDrawn (input text : List ℕ) (length : ℕ) (text' : List ℕ) :
   pub stands : Stands (program_text read) text length text'
 
 -- faulty exactly where the input is accepted as nothing; the room is as it was
-unfoldable pub InputDrawn : List ℕ → List ℕ → Drawn → List ℕ → Type 0
-InputDrawn input text (Text length) text' = TextDrawn input text length text'
-InputDrawn input text Faulty text' = ((i : Input) → Accepts input i → ⊥) × (text' ≡ text)
+unfoldable pub InputDrawn : List ℕ → List ℕ → Option ℕ → List ℕ → Type 0
+InputDrawn input text (Some length) text' = TextDrawn input text length text'
+InputDrawn input text None text' = ((i : Input) → Accepts input i → ⊥) × (text' ≡ text)

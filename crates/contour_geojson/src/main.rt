@@ -2,16 +2,16 @@
 // refused with number 12, and nothing else is: the tables have room for every terrain that is read.
 #![tactic(auto)]
 
-ghost use Rattle.std.specs.Prelude.{◌≡◌, ◌*◌, ◌≤◌, length};
+ghost use Rattle.std.specs.Prelude.{◌≤◌, length};
 ghost use Rattle.scope.specs.Terrain.{above_at, at_least, terrain};
 ghost use Rattle.scope.specs.GeoJson.{geo_json_text};
-ghost use Rattle.scope.specs.Program.{program_side, contour_text};
+ghost use Rattle.scope.specs.Program.{contour_text};
 ghost use Rattle.contour_geojson.specs.Drawing.{text_room, Small, Roomy, Writable, Stands, InputDrawn};
 
 use contourbuilder::contours;
 use error::Refusal;
 use geojson::write_geojson;
-use reading::{Reading, VALUES, read_input};
+use reading::{Terrain, VALUES, read_input};
 use scope::{Level, Rule};
 use std::io;
 use std::io::Read;
@@ -31,15 +31,6 @@ const DIRECTORY: usize = 3168;
 // The bytes of the text: 18 a point, 4 a ring and 40 are fewer (`text-within`).
 const TEXT: usize = 65536;
 
-// What an input text comes to.
-#[derive(Clone, Copy)]
-enum Drawn {
-    // the text of its contour, of this many bytes
-    Text(u64),
-    // nothing: it is not the text of a terrain
-    Faulty,
-}
-
 // Writes the text of a ring set that the writer takes, where there is room, and answers its length.
 fn write_rings(points: &[u16], directory: &[u32], rings: u32, text: &mut [u8]) -> u64
     requires { Writable points.now directory.now rings text.old }
@@ -54,32 +45,32 @@ fn write_rings(points: &[u16], directory: &[u32], rings: u32, text: &mut [u8]) -
 // Draws the regions of a terrain over tables that have the room, writes their text and answers its length.
 fn write_over(
     values: &[f64],
-    threshold: f64,
-    dx: usize,
-    dy: usize,
+    grid: Terrain,
     lines: &mut [u32],
     links: &mut [u32],
     points: &mut [u16],
     directory: &mut [u32],
     text: &mut [u8],
 ) -> u64
-    requires { Small values.now dx dy × Roomy lines.old links.old points.old directory.old text.old }
-    ensures { Stands (contour_text (terrain (above_at (at_least threshold)) values.now dx dy) dx dy) text.old result text.new }
+    requires { Small values.now grid.dx grid.dy × Roomy lines.old links.old points.old directory.old text.old }
+    ensures { Stands (contour_text (terrain (above_at (at_least grid.threshold)) values.now grid.dx grid.dy) grid.dx grid.dy) text.old result text.new }
 {
     let level = Level {
-        threshold,
+        threshold: grid.threshold,
         rule: Rule::AtLeast,
     };
-    match contours(values, level, dx, dy, lines, links, points, directory) {
+    match contours(
+        values, level, grid.dx, grid.dy, lines, links, points, directory,
+    ) {
         Err(_) => 0,
         Ok(rings) => write_rings(points, directory, rings, text),
     }
 }
 
 // Draws the regions of a terrain, writes their text and answers its length.
-fn write_contour(values: &[f64], threshold: f64, dx: usize, dy: usize, text: &mut [u8]) -> u64
-    requires { Small values.now dx dy × (text_room ≤ length text.old) }
-    ensures { Stands (contour_text (terrain (above_at (at_least threshold)) values.now dx dy) dx dy) text.old result text.new }
+fn write_contour(values: &[f64], grid: Terrain, text: &mut [u8]) -> u64
+    requires { Small values.now grid.dx grid.dy × (text_room ≤ length text.old) }
+    ensures { Stands (contour_text (terrain (above_at (at_least grid.threshold)) values.now grid.dx grid.dy) grid.dx grid.dy) text.old result text.new }
 {
     let mut lines = [0u32; LINES];
     let mut links = [0u32; LINKS];
@@ -87,9 +78,7 @@ fn write_contour(values: &[f64], threshold: f64, dx: usize, dy: usize, text: &mu
     let mut directory = [0u32; DIRECTORY];
     write_over(
         values,
-        threshold,
-        dx,
-        dy,
+        grid,
         &mut lines,
         &mut links,
         &mut points,
@@ -98,42 +87,30 @@ fn write_contour(values: &[f64], threshold: f64, dx: usize, dy: usize, text: &mu
     )
 }
 
-// How many samples a terrain has.
-fn sample_count(dx: usize, dy: usize) -> usize
-    requires { (dx ≤ program_side) × (dy ≤ program_side) }
-    ensures { result ≡ dx * dy }
-{
-    dx * dy
-}
-
-// Draws the terrain of an input text.
-fn draw_input(input: &[u8], text: &mut [u8]) -> Drawn
+// Draws the terrain of an input text and answers the length of its contour's text, or nothing where the input is not the text of a terrain.
+fn draw_input(input: &[u8], text: &mut [u8]) -> Option<u64>
     requires { text_room ≤ length text.old }
     ensures { InputDrawn input.now text.old result text.new }
 {
     let mut values = [0.0f64; VALUES];
-    match read_input(input, &mut values) {
-        Reading::Faulty => Drawn::Faulty,
-        Reading::Terrain { dx, dy, threshold } => {
-            let n = sample_count(dx, dy);
-            Drawn::Text(write_contour(&values[0..n], threshold, dx, dy, text))
-        }
-    }
+    let grid = read_input(input, &mut values)?;
+    let n = grid.dx * grid.dy;
+    Some(write_contour(&values[..n], grid, text))
 }
 
-// The first n bytes of a text.
+// The first n bytes of a text, or all where it has fewer.
 fn first(text: &[u8], n: usize) -> &[u8] {
-    if n <= text.len() { &text[0..n] } else { text }
+    text.get(..n).unwrap_or(text)
 }
 
 // Writes a text of this many bytes as a line, or number 12.
-fn print(rt: &impl Print, answer: Drawn, text: &[u8; TEXT]) -> io::Result<()> {
+fn print(rt: &impl Print, answer: Option<u64>, text: &[u8]) -> io::Result<()> {
     match answer {
-        Drawn::Text(length) => {
+        Some(length) => {
             rt.write_all(first(text, length as usize))?;
             println!(rt; "")
         }
-        Drawn::Faulty => {
+        None => {
             let number = error::number(Refusal::BadText);
             println!(rt; "refused {number}")
         }
@@ -141,6 +118,7 @@ fn print(rt: &impl Print, answer: Drawn, text: &[u8; TEXT]) -> io::Result<()> {
 }
 
 // Reads until the bytes are full or the input ends, and says how many it has read.
+// Kept: no heap, and of the library's methods `read_to_end` fills a Vec, and `read_exact` fails where the input is shorter than the bytes.
 fn read_full(input: &mut impl Read, bytes: &mut [u8]) -> io::Result<usize> {
     let mut done: usize = 0;
     while done < bytes.len() {
@@ -154,14 +132,10 @@ fn read_full(input: &mut impl Read, bytes: &mut [u8]) -> io::Result<usize> {
 }
 
 // Reads standard input, as far as a text may reach, and draws it.
-fn run(rt: &HostRuntime, input: &mut [u8; INPUT]) -> io::Result<()> {
-    let mut text = [0u8; TEXT];
-    let length = read_full(&mut rt.stdin(), input)?;
-    let answer = draw_input(first(input, length), &mut text);
-    print(rt, answer, &text)
-}
-
 fn main(rt: HostRuntime) -> io::Result<()> {
     let mut input = [0u8; INPUT];
-    run(&rt, &mut input)
+    let mut text = [0u8; TEXT];
+    let length = read_full(&mut rt.stdin(), &mut input)?;
+    let answer = draw_input(first(&input, length), &mut text);
+    print(&rt, answer, &text)
 }

@@ -1,81 +1,65 @@
 -- What the answers of the steps say of the parser, and what it finds by them. Assumes nothing.
-use mathlib.Core.Path.{◌≡◌, refl, sym, ◌∙◌}
+use Rattle.std.specs.Prelude.{Some, None}
+use mathlib.Core.Path.{◌≡◌, refl, ◌∙◌}
 use mathlib.Core.Bool.{true, false}
-use mathlib.Core.List.{List, [], map}
+use mathlib.Core.List.{List, [], ◌++◌, map}
 use Prim.Native.Nat.{ℕ, ◌*◌, ◌≤◌, ◌<◌}
 use native.Mathlib.Nat.{mul-le-mul}
 use native.Mathlib.Omega.{arith}
 use lib.Ieee.{Float}
-use lib.ListN.{length, drop, drop_of_length-le}
-use lib.Seq.{drop-cons}
+use lib.ListN.{length, take, drop, drop_of_length-le, length-map}
+use lib.Seq.{drop-cons, take_at}
 use Rattle.scope.specs.Smoothing.{whole}
 use Rattle.scope.specs.Tables.{written}
 use Rattle.scope.specs.Program.{number_limit, program_side}
 use Rattle.reading.specs.Parser.{found, none, number, numbers, ends_from, sides_fit, ended, headed, parsed}
 use Rattle.reading.specs.Reads.{InputRead, GotNumber, NumberRead, HeadRead, RowsRead, ValuesRead}
-use Rattle.reading.proofs.Decimals.{nothing-found, number-sound}
+use Rattle.reading.proofs.Decimals.{number-sound}
 use Rattle.reading.proofs.Inputs.{input_of, SidesFit, parsed-sound, nothing-accepted}
 use Rattle.reading.specs.declared.Number.{Number}
-use Rattle.reading.specs.declared.Number.TheVariants.{Found, Missing}
 use Rattle.reading.specs.declared.Head.{Head}
-use Rattle.reading.specs.declared.Head.TheVariants.{Sides, Faulty as HeadFaulty}
-use Rattle.reading.specs.declared.Rows.{Rows}
-use Rattle.reading.specs.declared.Rows.TheVariants.{Read, Faulty as RowsFaulty}
-use Rattle.reading.specs.declared.Reading.TheVariants.{Terrain, Faulty}
 
 -- ---- a number
 
-module _ (text : List ℕ) (from end : ℕ) (answer : Number) (read : NumberRead text from end answer) where
-  pub number-found : (value next : ℕ) → answer ≡ Found value next → (number end (drop from text) ≡ found value (drop next text)) × (next ≤ length text)
+module _ (text : List ℕ) (from end : ℕ) where
+  pub number-found : (n : Number) → NumberRead text from end (Some n) → (number end (drop from text) ≡ found n.value (drop n.next text)) × (n.next ≤ length text)
   unfolding NumberRead GotNumber
-  number-found value next e = rw e at read
+  number-found n read = read
 
-  pub number-within : (value next : ℕ) → answer ≡ Found value next → value ≤ number_limit
-  number-within value next e = (number-sound end (drop from text) value (drop next text) (number-found value next e).0).within
+  pub number-within : (n : Number) → NumberRead text from end (Some n) → n.value ≤ number_limit
+  number-within n read = (number-sound end (drop from text) n.value (drop n.next text) (number-found n read).0).within
 
-  pub number-none : answer ≡ Missing → number end (drop from text) ≡ none
+  pub number-none : NumberRead text from end None → number end (drop from text) ≡ none
   unfolding NumberRead GotNumber
-  number-none e = rw e at read
+  number-none read = read
 
 -- ---- the first line
 
-module _ (text : List ℕ) (answer : Head) (read : HeadRead text answer) where
-  pub head-found : (dx dy t next : ℕ) → answer ≡ Sides dx dy t next → (parsed text ≡ headed dx dy t (drop next text)) × (next ≤ length text)
+module _ (text : List ℕ) where
+  pub head-found : (h : Head) → HeadRead text (Some h) → (parsed text ≡ headed h.dx h.dy h.threshold (drop h.next text)) × (h.next ≤ length text)
   unfolding HeadRead
-  head-found dx dy t next e = rw e at read
+  head-found h read = read
 
-  pub head-none : answer ≡ HeadFaulty → parsed text ≡ none
+  pub head-none : HeadRead text None → parsed text ≡ none
   unfolding HeadRead
-  head-none e = rw e at read
+  head-none read = read
 
 -- ---- the rows
 
--- numbers are found, up to a place
-pub record RowsFound (text : List ℕ) (from dx count next : ℕ) : Type 0 where
-  pub numbers_of : List ℕ
-  pub found-are : numbers (ends_from dx 0 count) (drop from text) ≡ found numbers_of (drop next text)
-  pub within : next ≤ length text
-
-module _ (text : List ℕ) (from dx count : ℕ) (values : List Float) (answer : Rows) (values' : List Float) (read : ValuesRead text from dx count values answer values') where
-  pub rows-found : (next : ℕ) → answer ≡ Read next → RowsFound text from dx count next
+module _ (text : List ℕ) (from dx count : ℕ) (values values' : List Float) where
+  pub rows-found : (next : ℕ) → ValuesRead text from dx count values (Some next) values' → RowsRead text from dx count values next values'
   unfolding ValuesRead
-  rows-found next e =
-      let rows : RowsRead text from dx count values next values' = rw e at read in
-      record { numbers_of = rows.read; found-are = rows.read-are; within = rows.next-within }
+  rows-found next read = read
 
-  pub rows_none : answer ≡ RowsFaulty → numbers (ends_from dx 0 count) (drop from text) ≡ none
+  pub rows_none : ValuesRead text from dx count values None values' → numbers (ends_from dx 0 count) (drop from text) ≡ none
   unfolding ValuesRead
-  rows_none e = rw e at read
+  rows_none read = read
 
--- where numbers are known to be found, they are written
-pub rows_written : (text : List ℕ) (from dx count : ℕ) (values : List Float) (answer : Rows) (values' : List Float) → ValuesRead text from dx count values answer values' →
-    (ns left : List ℕ) → numbers (ends_from dx 0 count) (drop from text) ≡ found ns left → values' ≡ written (map whole ns) values
-unfolding ValuesRead
-rows_written text from dx count values (Read next) values' read ns left e =
-    let first = read.read-are in
-    let same : read.read ≡ ns = cc in
-    rw same at read.values-are
-rows_written text from dx count values RowsFaulty values' read ns left e = absurd (nothing-found (sym read ∙ e))
+-- as many values as were written into one table, copied into another, are written there
+pub copied-written : (words table tried copy table' : List Float) (n : ℕ) → length words ≡ n → tried ≡ written words table → copy ≡ take n tried →
+    copy ++ drop n table' ≡ written words table'
+unfolding written
+copied-written words table tried copy table' n many first taken = rw (taken, first, take_at words (drop (length words) table) n many, many)
 
 -- ---- the whole
 
@@ -103,16 +87,16 @@ module _ (text : List ℕ) (dx dy t next : ℕ) (head : parsed text ≡ headed d
       unfolding headed ended
       all-parsed h = head ∙ rw (sides, rows, drop_of_length-le text h)
 
-pub faulty : (text : List ℕ) (values : List Float) → parsed text ≡ none → InputRead text values Faulty values
+pub faulty : (text : List ℕ) (values : List Float) → parsed text ≡ none → InputRead text values None values
 unfolding InputRead
 faulty text values e = (nothing-accepted text e, refl)
 
 module _ (text : List ℕ) (dx dy t : ℕ) (ns : List ℕ) (all : parsed text ≡ found (input_of dx dy t ns) []) where
-  pub threshold-within : t ≤ number_limit
-  threshold-within = (parsed-sound text (input_of dx dy t ns) [] all).fits.threshold-fits
+  pub values-many : length (map whole ns) ≡ dx * dy
+  values-many = length-map ns whole ∙ (parsed-sound text (input_of dx dy t ns) [] all).fits.all-values
 
   pub terrain : (values values' : List Float) (threshold : Float) → threshold ≡ whole t → values' ≡ written (map whole ns) values →
-      InputRead text values (Terrain dx dy threshold) values'
+      InputRead text values (Some (record { dx = dx; dy = dy; threshold = threshold })) values'
   unfolding InputRead
   terrain values values' threshold threshold-is values-are =
       record {

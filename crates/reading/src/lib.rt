@@ -2,9 +2,8 @@
 #![tactic(auto)]
 
 ghost use Rattle.std.specs.Prelude.{◌≡◌, ◌≤◌, ◌<◌, length};
-ghost use Rattle.scope.specs.Smoothing.{whole};
 ghost use Rattle.scope.specs.Program.{number_limit};
-ghost use Rattle.reading.specs.Parser.{is_digit, goes_on, end_of, column_after, side_fits, sides_fit};
+ghost use Rattle.reading.specs.Parser.{goes_on, end_of, column_after, side_fits, sides_fit};
 ghost use Rattle.reading.specs.Reads.{NumberRead, RestRead, HeadRead, ValuesRead, InputRead};
 
 // The most columns and the most rows of a terrain that the program reads.
@@ -14,162 +13,99 @@ pub const SIDE: usize = 32;
 pub const VALUES: usize = 1024;
 
 // The largest number that the program reads.
-const LIMIT: usize = 65535;
+const LIMIT: u32 = 65535;
 
-// What stands in a text.
+// A terrain that a text is read as: its columns and rows, and its threshold.
 #[derive(Clone, Copy)]
-pub enum Reading {
-    // a terrain of this many columns and rows, and its threshold
-    Terrain {
-        dx: usize,
-        dy: usize,
-        threshold: f64,
-    },
-    // nothing that the program reads
-    Faulty,
+pub struct Terrain {
+    pub dx: usize,
+    pub dy: usize,
+    pub threshold: f64,
 }
 
-// What stands at a place of a text.
+// A number that stands at a place of a text, and the place past the number and its end.
 #[derive(Clone, Copy)]
-enum Number {
-    // a number and its end, and the place past them
-    Found { value: usize, next: usize },
-    // no number that the program reads, or another end
-    Missing,
+struct Number {
+    value: u32,
+    next: usize,
 }
 
-// What the first line of a text says.
+// What the first line of a text says: columns, rows and threshold, and the place past the line.
 #[derive(Clone, Copy)]
-enum Head {
-    // columns, rows and threshold, and the place past the line
-    Sides {
-        dx: usize,
-        dy: usize,
-        threshold: usize,
-        next: usize,
-    },
-    Faulty,
-}
-
-// What the lines after the first are.
-#[derive(Clone, Copy)]
-enum Rows {
-    // read, up to this place
-    Read(usize),
-    Faulty,
-}
-
-// A byte as a number.
-fn wide(b: u8) -> usize
-    ensures { result ≡ b }
-{
-    b as usize
-}
-
-// A number within the limit as a float.
-fn real(n: usize) -> f64
-    requires { n ≤ number_limit }
-    ensures { result ≡ whole n }
-{
-    n as f64
-}
-
-// Whether a byte is a decimal digit.
-fn is_digit(b: usize) -> bool
-    ensures { result ≡ is_digit b }
-{
-    48 <= b && b <= 57
+struct Head {
+    dx: usize,
+    dy: usize,
+    threshold: u32,
+    next: usize,
 }
 
 // Whether a number goes on with a byte: it is a digit that follows no leading zero, and the number stays within the limit.
-fn goes_on(value: usize, b: usize) -> bool
+#[tactic(auto, unfolding(crate::specs::Parser::goes_on, crate::specs::Parser::is_digit, scope::specs::Program::number_limit))]
+fn goes_on(value: u32, b: u8) -> bool
     requires { value ≤ number_limit }
     ensures { result ≡ goes_on value b }
 {
-    is_digit(b) && 0 < value && 10 * value + (b - 48) <= LIMIT
+    b.is_ascii_digit() && 0 < value && 10 * value + u32::from(b - b'0') <= LIMIT
 }
 
 // The rest of a number that begins with this value, from a place on, and its end.
-fn read_rest(text: &[u8], from: usize, begun: usize, end: u8) -> Number
+fn read_rest(text: &[u8], from: usize, begun: u32, end: u8) -> Option<Number>
     requires { begun ≤ number_limit }
     ensures { RestRead text.now from begun end result }
 {
     let mut value = begun;
-    let mut at = from;
-    while at < text.len() {
+    for at in from..text.len() {
         let b = text[at];
         if b == end {
-            return Number::Found {
+            return Some(Number {
                 value,
                 next: at + 1,
-            };
+            });
         }
-        let digit = wide(b);
-        if !goes_on(value, digit) {
-            return Number::Missing;
+        if !goes_on(value, b) {
+            return None;
         }
-        value = 10 * value + (digit - 48);
-        at += 1;
+        value = 10 * value + u32::from(b - b'0');
     }
-    Number::Missing
+    None
 }
 
 // The number at a place, and its end.
-fn read_number(text: &[u8], from: usize, end: u8) -> Number
+fn read_number(text: &[u8], from: usize, end: u8) -> Option<Number>
     ensures { NumberRead text.now from end result }
 {
-    if text.len() <= from {
-        return Number::Missing;
+    let b = *text.get(from)?;
+    if !b.is_ascii_digit() {
+        return None;
     }
-    let digit = wide(text[from]);
-    if is_digit(digit) {
-        read_rest(text, from + 1, digit - 48, end)
-    } else {
-        Number::Missing
-    }
+    read_rest(text, from + 1, u32::from(b - b'0'), end)
 }
 
 // The first line.
-fn read_head(text: &[u8]) -> Head
+fn read_head(text: &[u8]) -> Option<Head>
     ensures { HeadRead text.now result }
 {
-    let Number::Found {
-        value: dx,
-        next: after_dx,
-    } = read_number(text, 0, b' ')
-    else {
-        return Head::Faulty;
-    };
-    let Number::Found {
-        value: dy,
-        next: after_dy,
-    } = read_number(text, after_dx, b' ')
-    else {
-        return Head::Faulty;
-    };
-    let Number::Found {
-        value: threshold,
-        next,
-    } = read_number(text, after_dy, b'\n')
-    else {
-        return Head::Faulty;
-    };
-    Head::Sides {
-        dx,
-        dy,
-        threshold,
-        next,
-    }
+    let columns = read_number(text, 0, b' ')?;
+    let rows = read_number(text, columns.next, b' ')?;
+    let threshold = read_number(text, rows.next, b'\n')?;
+    Some(Head {
+        dx: columns.value as usize,
+        dy: rows.value as usize,
+        threshold: threshold.value,
+        next: threshold.next,
+    })
 }
 
 // Whether a terrain with this side is read.
+#[tactic(auto, unfolding(crate::specs::Parser::side_fits, scope::specs::Program::program_side))]
 fn side_fits(side: usize) -> bool
     ensures { result ≡ side_fits side }
 {
-    0 < side && side <= SIDE
+    (1..=SIDE).contains(&side)
 }
 
 // Whether a terrain of these sides is read.
+#[tactic(auto, unfolding(crate::specs::Parser::sides_fit))]
 fn sides_fit(dx: usize, dy: usize) -> bool
     ensures { result ≡ sides_fit dx dy }
 {
@@ -177,6 +113,7 @@ fn sides_fit(dx: usize, dy: usize) -> bool
 }
 
 // The byte that ends the number in a column: a newline in the last column, and a space before.
+#[tactic(auto, unfolding(crate::specs::Parser::end_of))]
 fn end_of(dx: usize, column: usize) -> u8
     requires { column < dx }
     ensures { result ≡ end_of dx column }
@@ -185,6 +122,7 @@ fn end_of(dx: usize, column: usize) -> u8
 }
 
 // The column of the number after the one in a column.
+#[tactic(auto, unfolding(crate::specs::Parser::column_after))]
 fn column_after(dx: usize, column: usize) -> usize
     requires { column < dx }
     ensures { result ≡ column_after dx column }
@@ -193,54 +131,46 @@ fn column_after(dx: usize, column: usize) -> usize
 }
 
 // Reads this many values, in rows of dx, from a place on, into the table, and answers the place past them.
-fn read_values(text: &[u8], from: usize, dx: usize, count: usize, values: &mut [f64]) -> Rows
+fn read_values(
+    text: &[u8],
+    from: usize,
+    dx: usize,
+    count: usize,
+    values: &mut [f64],
+) -> Option<usize>
     requires { (0 < dx) × (count ≤ length values.old) × (from ≤ length text.now) }
     ensures { ValuesRead text.now from dx count values.old result values.new }
 {
     let mut at = from;
     let mut column = 0;
-    let mut k = 0;
-    while k < count {
-        let Number::Found { value, next } = read_number(text, at, end_of(dx, column)) else {
-            return Rows::Faulty;
-        };
-        values[k] = real(value);
-        at = next;
+    for k in 0..count {
+        let number = read_number(text, at, end_of(dx, column))?;
+        values[k] = f64::from(number.value);
+        at = number.next;
         column = column_after(dx, column);
-        k += 1;
     }
-    Rows::Read(at)
+    Some(at)
 }
 
 // Reads a terrain, its values into the table from the first place on, row after row. Where the text is faulty the table stays: the values are read into
 // another table first.
-pub fn read_input(text: &[u8], values: &mut [f64; VALUES]) -> Reading
+pub fn read_input(text: &[u8], values: &mut [f64; VALUES]) -> Option<Terrain>
     ensures { InputRead text.now values.old result values.new }
 {
-    let Head::Sides {
-        dx,
-        dy,
-        threshold,
-        next,
-    } = read_head(text)
-    else {
-        return Reading::Faulty;
-    };
-    if !sides_fit(dx, dy) {
-        return Reading::Faulty;
+    let head = read_head(text)?;
+    if !sides_fit(head.dx, head.dy) {
+        return None;
     }
-    let count = dx * dy;
+    let count = head.dx * head.dy;
     let mut tried = [0.0f64; VALUES];
-    let Rows::Read(last) = read_values(text, next, dx, count, &mut tried) else {
-        return Reading::Faulty;
-    };
+    let last = read_values(text, head.next, head.dx, count, &mut tried)?;
     if last != text.len() {
-        return Reading::Faulty;
+        return None;
     }
-    read_values(text, next, dx, count, values);
-    Reading::Terrain {
-        dx,
-        dy,
-        threshold: real(threshold),
-    }
+    values[..count].copy_from_slice(&tried[..count]);
+    Some(Terrain {
+        dx: head.dx,
+        dy: head.dy,
+        threshold: f64::from(head.threshold),
+    })
 }

@@ -2,7 +2,7 @@
 // the length and the text of a ring set. Each is the word form over words that are copied out into the records, or in from them, and asks nothing of the caller.
 #![tactic(auto)]
 
-ghost use Rattle.std.specs.Prelude.{◌≡◌, ◌≤◌, length, take};
+ghost use Rattle.std.specs.Prelude.{◌≡◌};
 ghost use Rattle.scope.specs.GeoJson.{ring_set_refused};
 ghost use Rattle.bands.specs.Bands.{BandBuilt};
 ghost use Rattle.contourbuilder.specs.Contours.{ContoursBuilt};
@@ -11,7 +11,7 @@ ghost use Rattle.isoringbuilder.specs.Answers.{RingsBuilt};
 ghost use Rattle.linebuilder.specs.Lines.{LinesBuilt};
 ghost use Rattle.ringrecord.specs.Copies.{words_from, words_after};
 ghost use Rattle.smoothing.specs.Values.{placing_of};
-ghost use Rattle.records.specs.Over.{lent_words, rings_in, OverWords, OverRecords, read_words};
+ghost use Rattle.records.specs.Over.{lent_words, rings_in, OverRecords, read_words};
 
 use contour::{
     contour_lines, contour_rings, contours, geojson_length, isobands, ring_set_faulty,
@@ -25,13 +25,11 @@ use scope::{Level, Rule};
 use smoothing::Placement;
 
 // How many words the word form is lent, where there are so many words and records: four a record, as far as there are any.
+#[tactic(auto, unfolding(crate::specs::Over::lent_words, scope::specs::Room::directory_words, scope::specs::Limits::record_stride))]
 fn lent_words(words: usize, records: usize) -> usize
     ensures { result ≡ lent_words words records }
 {
-    if words / RECORD_STRIDE < records {
-        return words;
-    }
-    RECORD_STRIDE * records
+    words.min(RECORD_STRIDE.saturating_mul(records))
 }
 
 // How many rings an answer gives.
@@ -44,125 +42,7 @@ fn rings_in(built: Result<u32, Refusal>) -> u32
     }
 }
 
-// contour_rings over the first words, as many as that many records have.
-fn rings_over(
-    values: &[f64],
-    level: Level,
-    dx: usize,
-    dy: usize,
-    lines: &mut [u32],
-    links: &mut [u32],
-    points: &mut [u16],
-    directory: &mut [u32],
-    room: usize,
-) -> Result<u32, Refusal>
-    ensures { OverWords (λ directory directory'. RingsBuilt values.now level dx dy lines.old links.old points.old directory result
-        lines.new links.new points.new directory') (rings_in result) room directory.entry.now directory.exit.now }
-{
-    let lent = lent_words(directory.len(), room);
-    contour_rings(
-        values,
-        level,
-        dx,
-        dy,
-        lines,
-        links,
-        points,
-        &mut directory[..lent],
-    )
-}
-
-// contour_lines over the first words, as many as that many records have.
-fn lines_over(
-    values: &[f64],
-    level: Level,
-    dx: usize,
-    dy: usize,
-    smooth: bool,
-    placement: Placement,
-    lines: &mut [u32],
-    links: &mut [u32],
-    points: &mut [f64],
-    directory: &mut [u32],
-    room: usize,
-) -> Result<u32, Refusal>
-    ensures { OverWords (λ directory directory'. LinesBuilt values.now level dx dy smooth (placing_of placement) lines.old links.old points.old directory result
-        lines.new links.new points.new directory') (rings_in result) room directory.entry.now directory.exit.now }
-{
-    let lent = lent_words(directory.len(), room);
-    contour_lines(
-        values,
-        level,
-        dx,
-        dy,
-        smooth,
-        placement,
-        lines,
-        links,
-        points,
-        &mut directory[..lent],
-    )
-}
-
-// contours over the first words, as many as that many records have.
-fn contours_over(
-    values: &[f64],
-    level: Level,
-    dx: usize,
-    dy: usize,
-    lines: &mut [u32],
-    links: &mut [u32],
-    points: &mut [u16],
-    directory: &mut [u32],
-    room: usize,
-) -> Result<u32, Refusal>
-    ensures { OverWords (λ directory directory'. ContoursBuilt values.now level dx dy lines.old links.old points.old directory result
-        lines.new links.new points.new directory') (rings_in result) room directory.entry.now directory.exit.now }
-{
-    let lent = lent_words(directory.len(), room);
-    contours(
-        values,
-        level,
-        dx,
-        dy,
-        lines,
-        links,
-        points,
-        &mut directory[..lent],
-    )
-}
-
-// isobands over the first words, as many as that many records have.
-fn bands_over(
-    values: &[f64],
-    thresholds: &[f64],
-    rule: Rule,
-    k: usize,
-    dx: usize,
-    dy: usize,
-    lines: &mut [u32],
-    links: &mut [u32],
-    points: &mut [u16],
-    directory: &mut [u32],
-    room: usize,
-) -> Result<u32, Refusal>
-    ensures { OverWords (λ directory directory'. BandBuilt values.now thresholds.now rule k dx dy lines.old links.old points.old directory result
-        lines.new links.new points.new directory') (rings_in result) room directory.entry.now directory.exit.now }
-{
-    let lent = lent_words(directory.len(), room);
-    isobands(
-        values,
-        thresholds,
-        rule,
-        k,
-        dx,
-        dy,
-        lines,
-        links,
-        points,
-        &mut directory[..lent],
-    )
-}
+// Kept: the builds as four like functions, since of what a closure borrows and changes, here three of the tables, nothing is known after its call.
 
 // contour_rings, with a record a ring beside its words. Number 8 is given exactly where there are fewer records than rings, or fewer words than four a ring; records
 // past the rings and words past those lent stay.
@@ -180,10 +60,18 @@ pub fn ring_records(
     ensures { OverRecords (λ directory directory'. RingsBuilt values.now level dx dy lines.old links.old points.old directory result
         lines.new links.new points.new directory') (rings_in result) directory.entry.now directory.exit.now records.old records.new }
 {
-    let room = records.len();
-    let built = rings_over(values, level, dx, dy, lines, links, points, directory, room);
-    let n = rings_in(built);
-    let _ = records_from_words(directory, n, records);
+    let lent = lent_words(directory.len(), records.len());
+    let built = contour_rings(
+        values,
+        level,
+        dx,
+        dy,
+        lines,
+        links,
+        points,
+        &mut directory[..lent],
+    );
+    let _ = records_from_words(directory, rings_in(built), records);
     built
 }
 
@@ -204,12 +92,20 @@ pub fn line_records(
     ensures { OverRecords (λ directory directory'. LinesBuilt values.now level dx dy smooth (placing_of placement) lines.old links.old points.old directory result
         lines.new links.new points.new directory') (rings_in result) directory.entry.now directory.exit.now records.old records.new }
 {
-    let room = records.len();
-    let built = lines_over(
-        values, level, dx, dy, smooth, placement, lines, links, points, directory, room,
+    let lent = lent_words(directory.len(), records.len());
+    let built = contour_lines(
+        values,
+        level,
+        dx,
+        dy,
+        smooth,
+        placement,
+        lines,
+        links,
+        points,
+        &mut directory[..lent],
     );
-    let n = rings_in(built);
-    let _ = records_from_words(directory, n, records);
+    let _ = records_from_words(directory, rings_in(built), records);
     built
 }
 
@@ -228,10 +124,18 @@ pub fn contour_records(
     ensures { OverRecords (λ directory directory'. ContoursBuilt values.now level dx dy lines.old links.old points.old directory result
         lines.new links.new points.new directory') (rings_in result) directory.entry.now directory.exit.now records.old records.new }
 {
-    let room = records.len();
-    let built = contours_over(values, level, dx, dy, lines, links, points, directory, room);
-    let n = rings_in(built);
-    let _ = records_from_words(directory, n, records);
+    let lent = lent_words(directory.len(), records.len());
+    let built = contours(
+        values,
+        level,
+        dx,
+        dy,
+        lines,
+        links,
+        points,
+        &mut directory[..lent],
+    );
+    let _ = records_from_words(directory, rings_in(built), records);
     built
 }
 
@@ -252,58 +156,33 @@ pub fn isoband_records(
     ensures { OverRecords (λ directory directory'. BandBuilt values.now thresholds.now rule k dx dy lines.old links.old points.old directory result
         lines.new links.new points.new directory') (rings_in result) directory.entry.now directory.exit.now records.old records.new }
 {
-    let room = records.len();
-    let built = bands_over(
-        values, thresholds, rule, k, dx, dy, lines, links, points, directory, room,
+    let lent = lent_words(directory.len(), records.len());
+    let built = isobands(
+        values,
+        thresholds,
+        rule,
+        k,
+        dx,
+        dy,
+        lines,
+        links,
+        points,
+        &mut directory[..lent],
     );
-    let n = rings_in(built);
-    let _ = records_from_words(directory, n, records);
+    let _ = records_from_words(directory, rings_in(built), records);
     built
 }
 
 // How many words a reader is lent: four a ring where the rings' words were copied, and none otherwise.
+#[tactic(auto, unfolding(crate::specs::Over::read_words, scope::specs::Room::directory_words, scope::specs::Limits::record_stride))]
 fn read_words(rings: u32, copied: bool) -> usize
     ensures { result ≡ read_words rings copied }
 {
     if copied {
-        return RECORD_STRIDE * (rings as usize);
+        RECORD_STRIDE * (rings as usize)
+    } else {
+        0
     }
-    0
-}
-
-// ring_set_faulty over the words that were copied.
-fn faulty_over(points: &[u16], directory: &[u32], rings: u32, copied: bool) -> bool
-    requires { read_words rings copied ≤ length directory.now }
-    ensures { result ≡ ring_set_refused points.now (take (read_words rings copied) directory.now) rings }
-{
-    ring_set_faulty(points, &directory[0..read_words(rings, copied)], rings)
-}
-
-// geojson_length over the words that were copied.
-fn length_over(points: &[u16], directory: &[u32], rings: u32, copied: bool) -> Result<u64, Refusal>
-    requires { read_words rings copied ≤ length directory.now }
-    ensures { result ≡ length_answer points.now (take (read_words rings copied) directory.now) rings }
-{
-    geojson_length(points, &directory[0..read_words(rings, copied)], rings)
-}
-
-// write_geojson over the words that were copied.
-fn text_over(
-    points: &[u16],
-    directory: &[u32],
-    rings: u32,
-    copied: bool,
-    text: &mut [u8],
-) -> Result<u64, Refusal>
-    requires { read_words rings copied ≤ length directory.now }
-    ensures { (result ≡ written_answer points.now (take (read_words rings copied) directory.now) rings text.old) × (text.new ≡ text_after points.now (take (read_words rings copied) directory.now) rings text.old) }
-{
-    write_geojson(
-        points,
-        &directory[0..read_words(rings, copied)],
-        rings,
-        text,
-    )
 }
 
 // ring_set_faulty over the words of the first records, as many as rings are stated, which are copied into the directory. Where there are not as many words or
@@ -317,7 +196,7 @@ pub fn record_set_faulty(
     ensures { (result ≡ ring_set_refused points.now (words_from rings records.now directory.old) rings) × (directory.new ≡ words_after rings records.now directory.old) }
 {
     let copied = words_from_records(records, rings, directory);
-    faulty_over(points, directory, rings, copied)
+    ring_set_faulty(points, &directory[..read_words(rings, copied)], rings)
 }
 
 // geojson_length over the words of the records, in the same way.
@@ -330,7 +209,7 @@ pub fn record_text_length(
     ensures { (result ≡ length_answer points.now (words_from rings records.now directory.old) rings) × (directory.new ≡ words_after rings records.now directory.old) }
 {
     let copied = words_from_records(records, rings, directory);
-    length_over(points, directory, rings, copied)
+    geojson_length(points, &directory[..read_words(rings, copied)], rings)
 }
 
 // write_geojson over the words of the records, in the same way.
@@ -344,5 +223,5 @@ pub fn write_record_text(
     ensures { (result ≡ written_answer points.now (words_from rings records.now directory.old) rings text.old) × (text.new ≡ text_after points.now (words_from rings records.now directory.old) rings text.old) × (directory.new ≡ words_after rings records.now directory.old) }
 {
     let copied = words_from_records(records, rings, directory);
-    text_over(points, directory, rings, copied, text)
+    write_geojson(points, &directory[..read_words(rings, copied)], rings, text)
 }

@@ -4,11 +4,10 @@
 
 ghost use Rattle.std.specs.Prelude.{◌≡◌, length};
 ghost use Rattle.std.proofs.lemmas.List.Edits.{sets};
-ghost use Rattle.scope.specs.Area.{twos_complement};
 ghost use Rattle.scope.specs.Contour.{class_word, owner_word};
 ghost use Rattle.scope.specs.Room.{directory_words};
 ghost use Rattle.scope.specs.Area.{area_from};
-ghost use Rattle.ringrecord.specs.Records.{fate_of, words_of, fate_from, record_from, record_in};
+ghost use Rattle.ringrecord.specs.Records.{fate_of, words_of, fate_from, record_in};
 ghost use Rattle.ringrecord.specs.Copies.{room_for, copied_rings, records_after, words_after};
 
 use lent::put;
@@ -17,7 +16,7 @@ use measuring::put_area;
 use ringset::record_at;
 
 // What became of a ring.
-#[derive(Clone, Copy)]
+#[derive(Clone, Copy, PartialEq, Eq, Debug)]
 pub enum Fate {
     Polygon,
     // a hole, and the record number of the polygon that it belongs to
@@ -28,7 +27,7 @@ pub enum Fate {
 }
 
 // A directory record: the number of the ring's first point, how many points it has, its fate and its signed area.
-#[derive(Clone, Copy)]
+#[derive(Clone, Copy, PartialEq, Eq, Debug)]
 pub struct RingRecord {
     pub first: u32,
     pub count: u32,
@@ -37,93 +36,62 @@ pub struct RingRecord {
 }
 
 // The class word of a fate.
+#[tactic(auto, unfolding(scope::specs::Contour::class_word, crate::specs::Records::fate_of))]
 pub fn class_word(fate: Fate) -> u32
     ensures { result ≡ class_word (fate_of fate) }
 {
     match fate {
         Fate::Polygon => POLYGON,
-        Fate::Hole(_) => HOLE,
-        Fate::Dropped => HOLE,
+        Fate::Hole(_) | Fate::Dropped => HOLE,
         Fate::Line => LINE,
     }
 }
 
 // The owner word of a fate, in the record of number `k`.
+#[tactic(auto, unfolding(scope::specs::Contour::owner_word, scope::specs::Limits::no_owner, crate::specs::Records::fate_of))]
 pub fn owner_word(k: u32, fate: Fate) -> u32
     ensures { result ≡ owner_word k (fate_of fate) }
 {
     match fate {
         Fate::Polygon => k,
         Fate::Hole(owner) => owner,
-        Fate::Dropped => NO_OWNER,
-        Fate::Line => NO_OWNER,
+        Fate::Dropped | Fate::Line => NO_OWNER,
     }
-}
-
-// An area in two's complement.
-fn complement(area: i64) -> u64
-    ensures { result ≡ twos_complement area }
-{
-    if area < 0 {
-        let left = (-1 - area) as u64;
-        return 18446744073709551615 - left;
-    }
-    area as u64
 }
 
 // The fate that class and owner words stand for.
+#[tactic(auto, unfolding(crate::specs::Records::fate_from, scope::specs::Limits::no_owner))]
 fn fate_from(class: u32, owner: u32) -> Fate
     ensures { result ≡ fate_from class owner }
 {
-    if class == POLYGON {
-        return Fate::Polygon;
+    match (class, owner) {
+        (POLYGON, _) => Fate::Polygon,
+        (HOLE, NO_OWNER) => Fate::Dropped,
+        (HOLE, owner) => Fate::Hole(owner),
+        _ => Fate::Line,
     }
-    if class != HOLE {
-        return Fate::Line;
-    }
-    if owner == NO_OWNER {
-        return Fate::Dropped;
-    }
-    Fate::Hole(owner)
 }
 
 // The area that two words stand for, low word first.
+#[tactic(auto, unfolding(scope::specs::Area::area_from, scope::specs::Area::whole_from))]
 fn area_from(low: u32, high: u32) -> i64
     ensures { result ≡ area_from low high }
 {
-    let bits = (low as u64) + 4294967296 * (high as u64);
-    if bits < 9223372036854775808 {
-        return bits as i64;
-    }
-    let left = (18446744073709551615 - bits) as i64;
-    -1 - left
-}
-
-// The record that six words stand for.
-fn record_from(first: u32, count: u32, class: u32, owner: u32, low: u32, high: u32) -> RingRecord
-    ensures { result ≡ record_from first count class owner low high }
-{
-    RingRecord {
-        first,
-        count,
-        fate: fate_from(class, owner),
-        area: area_from(low, high),
-    }
+    (u64::from(low) + 4294967296 * u64::from(high)).cast_signed()
 }
 
 // Record `k` of directory words.
+#[tactic(auto, unfolding(crate::specs::Records::record_in, crate::specs::Records::record_from))]
 fn record_in(directory: &[u32], k: u32) -> RingRecord
     ensures { result ≡ record_in directory.now k }
 {
     let words = record_at(directory, k);
-    record_from(
-        words.first,
-        words.count,
-        words.class,
-        words.owner,
-        words.area_low,
-        words.area_high,
-    )
+    RingRecord {
+        first: words.first,
+        count: words.count,
+        fate: fate_from(words.class, words.owner),
+        area: area_from(words.area_low, words.area_high),
+    }
 }
 
 // Stores the six words of record `k`.
@@ -136,18 +104,16 @@ fn put_words(directory: &mut [u32], k: u32, record: RingRecord)
     put(directory, at + 1, record.count);
     put(directory, at + 2, class_word(fate));
     put(directory, at + 3, owner_word(k, fate));
-    put_area(directory, at + 4, complement(record.area));
+    put_area(directory, at + 4, record.area.cast_unsigned());
 }
 
 // How many of the stated rings are copied, where there are so many words and records: all, or none.
+#[tactic(auto, unfolding(crate::specs::Copies::copied_rings, crate::specs::Copies::room_for, scope::specs::Room::directory_words, scope::specs::Limits::record_stride))]
 fn copied_rings(rings: u32, words: usize, records: usize) -> u32
     ensures { result ≡ copied_rings rings words records }
 {
     let n = rings as usize;
-    if words < RECORD_STRIDE * n {
-        return 0;
-    }
-    if records < n {
+    if words < RECORD_STRIDE * n || records < n {
         return 0;
     }
     rings
@@ -159,11 +125,8 @@ pub fn records_from_words(directory: &[u32], rings: u32, records: &mut [RingReco
     ensures { (result ≡ room_for rings (length directory.now) (length records.old)) × (records.new ≡ records_after rings directory.now records.old) }
 {
     let n = copied_rings(rings, directory.len(), records.len());
-    let mut k: u32 = 0;
-    while k < n {
-        let record = record_in(directory, k);
-        records[k as usize] = record;
-        k += 1;
+    for k in 0..n {
+        records[k as usize] = record_in(directory, k);
     }
     n == rings
 }
@@ -174,11 +137,8 @@ pub fn words_from_records(records: &[RingRecord], rings: u32, directory: &mut [u
     ensures { (result ≡ room_for rings (length directory.old) (length records.now)) × (directory.new ≡ words_after rings records.now directory.old) }
 {
     let n = copied_rings(rings, directory.len(), records.len());
-    let mut k: u32 = 0;
-    while k < n {
-        let record = records[k as usize];
-        put_words(directory, k, record);
-        k += 1;
+    for k in 0..n {
+        put_words(directory, k, records[k as usize]);
     }
     n == rings
 }

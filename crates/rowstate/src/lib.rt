@@ -30,19 +30,22 @@ const INFINITE: u64 = 9218868437227405312;
 const NAN: u64 = 9221120237041090560;
 
 // Two words as one, the low one first.
+#[tactic(auto, unfolding(crate::specs::Words::paired))]
 fn paired(low: u32, high: u32) -> u64
     ensures { result ≡ paired low high }
 {
-    low as u64 + HALF * (high as u64)
+    u64::from(low) + HALF * u64::from(high)
 }
 
 // The low word of two that are one, and the high one.
+#[tactic(auto, unfolding(crate::specs::Words::low_half))]
 fn low_half(n: u64) -> u32
     ensures { result ≡ low_half n }
 {
     (n % HALF) as u32
 }
 
+#[tactic(auto, unfolding(crate::specs::Words::high_half))]
 fn high_half(n: u64) -> u32
     ensures { result ≡ high_half n }
 {
@@ -54,24 +57,25 @@ fn float_of(bits: u64) -> f64
     ensures { result ≡ of_bits binary64 bits }
 {
     if INFINITE < bits % SIGN {
-        return 0.0 / 0.0;
+        f64::NAN
+    } else {
+        f64::from_bits(bits)
     }
-    f64::from_bits(bits)
 }
 
 // The bits of a float.
 fn bits_of(x: f64) -> u64
     ensures { result ≡ to_bits binary64 x }
 {
-    if x == x { f64::to_bits(x) } else { NAN }
+    if x.is_nan() { NAN } else { x.to_bits() }
 }
 
 // How many words the samples of that many columns have, at most those of a row.
+#[tactic(auto, unfolding(crate::specs::Words::sample_words))]
 fn sample_words(dx: u32) -> usize
     ensures { result ≡ sample_words dx }
 {
-    let words = (dx as usize + (SAMPLES - 1)) / SAMPLES;
-    if words < ROW_WORDS { words } else { ROW_WORDS }
+    (dx as usize).div_ceil(SAMPLES).min(ROW_WORDS)
 }
 
 // The samples that words hold, of that many columns.
@@ -80,26 +84,21 @@ fn samples_in(words: &[u32; STATE_WORDS], dx: u32) -> [u64; ROW_WORDS]
 {
     let count = sample_words(dx);
     let mut above = [0u64; ROW_WORDS];
-    let mut w = 0;
-    while w < count {
+    for w in 0..count {
         let at = SAMPLES_AT + 2 * w;
-        let low = words[at];
-        let high = words[at + 1];
-        above[w] = paired(low, high);
-        w += 1;
+        above[w] = paired(words[at], words[at + 1]);
     }
     above
 }
 
 // The state that words hold. Of the samples only those of the columns are read.
+// Kept: a function and no `From<&[u32; STATE_WORDS]>`, since `Rows` is of another crate, and only its own crate may write an impl of `From` for it.
 pub fn state_of(words: &[u32; STATE_WORDS]) -> Rows
     ensures { result ≡ state_in words.now }
 {
     let threshold = float_of(paired(words[8], words[9]));
-    let level = level_of(threshold, words[10]);
-    let above = samples_in(words, words[0]);
     Rows {
-        level,
+        level: level_of(threshold, words[10]),
         dx: words[0],
         dy: words[1],
         drawn: words[2],
@@ -108,7 +107,7 @@ pub fn state_of(words: &[u32; STATE_WORDS]) -> Rows
         spare: words[5],
         fresh: words[6],
         held: words[7],
-        above,
+        above: samples_in(words, words[0]),
     }
 }
 
@@ -117,13 +116,11 @@ fn store_samples(above: &[u64; ROW_WORDS], dx: u32, words: &mut [u32; STATE_WORD
     ensures { words.new ≡ samples_out above.now dx words.old }
 {
     let count = sample_words(dx);
-    let mut w = 0;
-    while w < count {
+    for w in 0..count {
         let samples = above[w];
         let at = SAMPLES_AT + 2 * w;
         words[at] = low_half(samples);
         words[at + 1] = high_half(samples);
-        w += 1;
     }
 }
 
@@ -142,8 +139,6 @@ pub fn store_state(state: Rows, words: &mut [u32; STATE_WORDS])
     let bits = bits_of(state.level.threshold);
     words[8] = low_half(bits);
     words[9] = high_half(bits);
-    let level = state.level;
-    let rule = level.rule;
-    words[10] = rule_number(rule);
+    words[10] = rule_number(state.level.rule);
     store_samples(&state.above, state.dx, words);
 }

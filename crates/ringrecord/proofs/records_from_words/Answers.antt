@@ -24,7 +24,7 @@ loop-k-preserved c =
     let next : c.loop-k.k + 1 ≤ c.copied_rings-n.result = omega (arith, c.loop-k-test.true) in
     let there : c.loop-k.k < length c.args.records.now = omega (arith, next, room.1) in
     let words = le_trans (fewer-records-fewer-words _ _ next) room.0 in
-    (next, rw (c.record_in-record.ensures, c.loop-k.invariant.1) (next-record c.args.directory.now c.loop-k.k words c.args.records.now there))
+    (next, rw (c.record_in.ensures, c.loop-k.invariant.1) (next-record c.args.directory.now c.loop-k.k words c.args.records.now there))
 
 pub returns : goal.returns
 returns c =

@@ -1,5 +1,4 @@
--- `rowstate::samples_in` meets its contract. The loop's invariant is that the samples left, over those so far, are all; the measure is how many words are left.
--- Assumes nothing.
+-- `rowstate::samples_in` meets its contract. The loop's invariant is that the samples left, over those so far, are all. Assumes nothing.
 use mathlib.Core.Path.{sym, ◌∙◌}
 use native.Mathlib.Omega.{arith}
 use Rattle.rowstate.proofs.Walks.{samples-in-a-row, none_read, sample-read, all_read}

@@ -1,5 +1,4 @@
--- `rowstate::samples_in` meets its contract. The loop's invariant is that the samples left, over those so far, are all; the measure is how many words are left.
--- Assumes nothing.
+-- `rowstate::samples_in` meets its contract. The loop's invariant is that the samples left, over those so far, are all. Assumes nothing.
 use mathlib.Core.Path.{◌≡◌}
 use Prim.Native.Nat.{◌-◌, ◌≤◌}
 use lib.Seq.{sets}
@@ -8,6 +7,3 @@ use Rattle.rowstate.proofs.samples_in.Given as goal
 
 abbrev pub invariant-loop-w : goal.invariant-loop-w
 invariant-loop-w l = (samples_in l.words l.dx ≡ sets l.above l.w (samples_from l.words l.w (l.count - l.w))) × (l.count ≤ 65)
-
-abbrev pub decreases-loop-w : goal.decreases-loop-w
-decreases-loop-w l = l.count - l.w

@@ -4,4 +4,4 @@ use Rattle.rowstate.proofs.state_of.Goals as goal
 
 pub returns : goal.returns
 returns c =
-    state-read c.args.words.now _ _ _ _ c.paired.ensures c.float_of-threshold.ensures c.level_of-level.ensures c.samples_in-above.ensures
+    state-read c.args.words.now _ _ _ _ c.paired.ensures c.float_of-threshold.ensures c.level_of.ensures c.samples_in.ensures

@@ -1,5 +1,4 @@
--- `rowstate::store_samples` meets its contract. The loop's invariant is that the halves left, over the words so far, are all; the measure is how many words of
--- samples are left. Assumes nothing.
+-- `rowstate::store_samples` meets its contract. The loop's invariant is that the halves left, over the words so far, are all. Assumes nothing.
 use mathlib.Core.Path.{sym, ◌∙◌}
 use native.Mathlib.Omega.{arith}
 use Rattle.rowstate.proofs.Walks.{samples-in-a-row, none-stored, sample-stored, all-stored}

@@ -1,5 +1,4 @@
--- `rowstate::store_samples` meets its contract. The loop's invariant is that the halves left, over the words so far, are all; the measure is how many words of
--- samples are left. Assumes nothing.
+-- `rowstate::store_samples` meets its contract. The loop's invariant is that the halves left, over the words so far, are all. Assumes nothing.
 use mathlib.Core.Path.{◌≡◌}
 use Prim.Native.Nat.{◌+◌, ◌-◌, ◌*◌, ◌≤◌}
 use lib.Seq.{sets}
@@ -8,6 +7,3 @@ use Rattle.rowstate.proofs.store_samples.Given as goal
 
 abbrev pub invariant-loop-w : goal.invariant-loop-w
 invariant-loop-w l = (samples_out l.above l.dx l.initial.words ≡ sets l.words (11 + 2 * l.w) (halves_from l.above l.w (l.count - l.w))) × (l.count ≤ 65)
-
-abbrev pub decreases-loop-w : goal.decreases-loop-w
-decreases-loop-w l = l.count - l.w
