@@ -153,8 +153,7 @@ module _ {S R H P s r h p : ℕ} {fit : Result (Unit {0}) Refusal} {open_need li
           → (fit ≡ Ok tt) × (S ≡ s) × (R ≡ r) × (H ≡ h) × (P ≡ p)
       by (refused why) work e = absurd (let z : ◌≡◌ {A = ℕ} 0 1 = cc in omega arith)
       by passes work e =
-          let same : ◌≡◌ {A = SecondReport} (record { segments = S; rings = R; peak = H; points = P }) (record { segments = s; rings = r; peak = h; points = p }) = cc in
-          (
+          let same : ◌≡◌ {A = SecondReport} (record { segments = S; rings = R; peak = H; points = P }) (record { segments = s; rings = r; peak = h; points = p }) = cc in (
             ((work-passes fit (length lines) open_need (length links) link_need).1 work).0,
             ap (λ (room : SecondReport). room.segments) same,
             ap (λ (room : SecondReport). room.rings) same,
