@@ -12,20 +12,21 @@ ghost use Rattle.smoothing.specs.Values.{placing_of};
 ghost use Rattle.plotting.specs.Plot.{point_of, vertex_at};
 
 use cells::{Point, indexed_point};
-use lent::{MARK, put, word};
+use lent::{MARK, put};
 use limits::{RECORD_STRIDE, SHORT_STRIDE};
+use lines::tables::{link_point, next_link};
 use measuring::{put_area, turned};
-use packing::{Walk, next_link, put_record};
+use packing::{Walk, put_record};
 use scope::Level;
 use smoothing::{Placement, line_vertex};
 
 // The start point of link `k`.
-#[tactic(auto, unfolding(machine::specs::Walk::start_point, machine::specs::Machine::link_point))]
+#[tactic(auto, unfolding(machine::specs::Walk::start_point))]
 fn start_of(links: &[u32], dx: u32, k: u32) -> Point
     requires { 2 * (dx + 1) < 2 ^ 32 }
     ensures { point_of result ≡ start_point dx links.now k }
 {
-    indexed_point(word(links, 2 * (k as usize)), dx)
+    indexed_point(link_point(links, k), dx)
 }
 
 // Stores the line's vertex at a point as two words, from word `at` on: x, then y.
