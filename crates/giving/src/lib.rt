@@ -176,7 +176,7 @@ fn give_ring(
 }
 
 // A stroke of a cell by the rule that its sides call for. One that closes a ring takes no link.
-// Kept: four tables beside each other, since the check does not know what tables in a struct of `&mut` hold once the struct is let go.
+// Kept: four tables beside each other, since a struct of `&mut` asks a clause a table more of each function, that it holds the same table.
 fn give_stroke(
     lines: &mut [u32],
     links: &mut [u32],
@@ -297,6 +297,7 @@ fn give_changes(
 }
 
 // Row `r` of cells, between two rows of samples of `dx` columns.
+// Kept: `try_row` of `trying` has this loop too; one walk for both needs a trait for the step, with a struct of each one's tables and laws, and is no plainer.
 #[tactic(auto, unfolding(scope::specs::Limits::side_limit))]
 pub fn give_row(
     upper: &[u64; ROW_WORDS],

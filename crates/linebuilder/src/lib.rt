@@ -35,6 +35,7 @@ fn plot(
 // Every ring of a grid at one level as a line, in the crate's order, vertex order and first vertex: points packed by ring number, smoothed where that is
 // asked, then placed, and a directory record a ring. On success, and where points or directory are short, the needed words of both work tables are zero; any
 // refusal spares the outputs.
+// Kept: parameters one by one, since users name this call and its C entry hands them so.
 pub fn contour_lines(
     values: &[f64],
     level: Level,

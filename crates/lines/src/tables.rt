@@ -6,6 +6,7 @@ ghost use Rattle.lines.specs.Values.{slot_at, slot_put};
 use lent::{put, word};
 
 // What a slot of the open table holds of its line: the first link, the last link, the index of the end point, and the number of links.
+// Kept: slots and links are words of two lent tables, since the library allocates nothing and the C interface lends words.
 #[derive(Clone, Copy)]
 pub struct Slot {
     pub first: u32,

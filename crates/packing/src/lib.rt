@@ -35,6 +35,7 @@ fn put_point(links: &[u32], dx: u32, k: u32, points: &mut [u16], at: usize)
 
 // Stores the record of a ring without its area as four words, from word `at` on: the number of its first point, how many points it has, its class, and no
 // owner.
+// Kept: a record is words of a lent table and no struct, since the library allocates nothing and the C interface lends words.
 #[tactic(auto, unfolding(machine::specs::Walk::record_words, scope::specs::Limits::no_owner))]
 pub fn put_record(directory: &mut [u32], at: usize, first: u64, count: u64)
     ensures { directory.new ≡ sets directory.old at (record_words first count) }

@@ -71,6 +71,7 @@ fn stepped(area: u64, from: Point, to: Point) -> u64
 
 // Stores the record of a line as six words, from word `at` on: the number of its first point, how many points it has, its class, no owner, and the area of its
 // ring.
+// Kept: words of a lent table and no struct, as `put_record` of `packing` says.
 #[tactic(auto, unfolding(machine::specs::Walk::record_words))]
 fn put_line(directory: &mut [u32], at: usize, first: u64, count: u64, area: u64)
     requires { at < 2 ^ 35 }

@@ -240,6 +240,7 @@ fn try_changes(
 }
 
 // The cells between two rows of samples, of `dx` columns, tried over the frontier's words.
+// Kept: `give_row` of `giving` has this loop too; one walk for both needs a trait for the step, with a struct of each one's tables and laws, and is no plainer.
 #[tactic(auto, unfolding(scope::specs::Limits::side_limit))]
 pub fn try_row(
     upper: &[u64; ROW_WORDS],
