@@ -6,19 +6,16 @@ use Prim.Native.Nat.{ℕ, zero, suc, ◌+◌, ◌-◌, ◌*◌, ◌/◌, ◌%◌
 use native.Mathlib.Decide.{dec_lt}
 use native.Mathlib.Omega.{arith}
 use lib.Dec.{ltb, eqb}
-use lib.ListN.{length, get_or, take, drop, length-append, get_or-eq_default}
-use lib.Seq.{get_or-take, get_or-drop}
+use lib.ListN.{length, get_or, length-append}
 use mir.Syntax.{w16}
 use mir.Val.{Fits}
 use Rattle.std.specs.List.{sum_by}
-use Rattle.std.proofs.lemmas.List.{length-take}
 use Rattle.std.proofs.lemmas.List.Sums.{sum_by-cons}
-use Rattle.laws.proofs.Words.{words-in-length}
 use borrow.Author.Tests.{ltb-false, eqb-true, eqb-false}
 use Rattle.scope.specs.Limits.{coordinate_limit}
 use Rattle.scope.specs.Stitching.{Line}
 use Rattle.scope.specs.Area.{points, any_above}
-use Rattle.scope.specs.GeoJson.{words_in, decimal, coordinate_text, joined, bracketed, point_text, ring_text, written_order}
+use Rattle.scope.specs.GeoJson.{decimal, coordinate_text, joined, bracketed, point_text, ring_text, written_order}
 use Rattle.laws.proofs.Tests.{neither}
 use Rattle.laws.proofs.Total.{total, total-append}
 use Rattle.geotext.specs.Pieces.{digit_text}
