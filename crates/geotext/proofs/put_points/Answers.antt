@@ -17,9 +17,8 @@ use Rattle.geotext.proofs.put_points.Goals.{After-next_of-i, Then-left-gt0}
 the_next : (c : After-next_of-i) → c.next_of-i.result ≡ next_of (length c.args.ring.now / 2) c.loop-left.left c.args.back
 the_next c = c.next_of-i.ensures ∙ ap (λ (n : ℕ). next_of (length c.args.ring.now / 2) n c.args.back) (omega arith)
 
--- the next point's words are among the points
-words-there : (c : After-next_of-i) →
-    2 * c.next_of-i.result + 2 ≤ length c.args.ring.now
+-- the next point's words are among the ring's
+words-there : (c : After-next_of-i) → 2 * c.next_of-i.result + 2 ≤ length c.args.ring.now
 words-there c =
     omega (arith, the_next c, next-within (length c.args.ring.now / 2) c.loop-left.left c.args.back c.loop-left-test.true c.loop-left.invariant.within)
 
@@ -27,7 +26,7 @@ words-there c =
 at-comma : (c : Then-left-gt0) →
     let ring = written_order c.args.back (points c.args.ring.now) in
     Left c.args.text.now c.args.at (point_texts ring) c.put_point-place.new.text c.put_point-place.result
-    (44 ∷ point_texts (drop ((length c.args.ring.now / 2) - (c.loop-left.left - 1)) ring))
+    (44 ∷ point_texts (drop (length c.args.ring.now / 2 - (c.loop-left.left - 1)) ring))
 at-comma c =
     points-comma c.loop-left.invariant c.loop-left-test.true
     (c.next_of-i.ensures ∙ ap (λ (n : ℕ). next_of (length c.args.ring.now / 2) n c.args.back) (omega arith))
