@@ -62,6 +62,7 @@ fn decision_at(set: RingSet, outer: u32, k: u32) -> Decision
 }
 
 // Whether the answer is not -1.
+#[tactic(auto, unfolding(scope::specs::Containment::not_outside, deciding::specs::Decisions::answer_in))]
 fn holds(answer: Decision) -> bool
     ensures { result ≡ not_outside (answer_in answer) }
 {
@@ -111,6 +112,7 @@ pub fn ring_fate(
 
 // What one ring of a ring set, called the polygon whatever its class, answers for another, with the vertex that decides: what the vertices of the other ring come to.
 // Number 9 where the ring set is faulty, and 15 where there is no ring of such a number.
+#[tactic(auto, unfolding(crate::specs::Fates::polygon_answer))]
 pub fn polygon_answer(
     points: &[u16],
     directory: &[u32],
@@ -131,6 +133,7 @@ pub fn polygon_answer(
 }
 
 // Whether the sample in a column and a row, both counted from one outside, is in the grid.
+#[tactic(auto, unfolding(crate::specs::Vertices::in_grid))]
 fn in_grid(dx: u32, dy: u32, column: u32, row: u32) -> bool
     ensures { result ≡ in_grid dx dy column row }
 {
@@ -138,6 +141,7 @@ fn in_grid(dx: u32, dy: u32, column: u32, row: u32) -> bool
 }
 
 // Whether a point of doubled coordinates stands midway between two neighbouring samples of which at least one is in the grid.
+#[tactic(auto, unfolding(crate::specs::Vertices::midway, crate::specs::Vertices::midway_in_row, crate::specs::Vertices::midway_in_column))]
 fn midway(dx: u32, dy: u32, point: Point) -> bool
     ensures { result ≡ midway dx dy (record { x = point.x; y = point.y }) }
 {
@@ -163,6 +167,7 @@ fn vertex_at(set: RingSet, ring: u32, vertex: u32) -> Point
 }
 
 // What smoothing does to a vertex of a checked set, or number 15.
+#[tactic(auto, unfolding(crate::specs::Vertices::vertex_told, crate::specs::Vertices::vertex_there))]
 fn vertex_told(
     values: &[f64],
     level: Level,
@@ -204,6 +209,6 @@ pub fn smoothed_vertex(
     ensures { result ≡ vertex_answer values.now level.threshold dx dy points.now directory.now rings ring vertex }
 {
     grid_fit(values.len(), dx, dy)?;
-    let set = RingSet::check(points, directory, rings)?;
-    vertex_told(values, level, dx as u32, dy as u32, set, ring, vertex)
+    let ring_set = RingSet::check(points, directory, rings)?;
+    vertex_told(values, level, dx as u32, dy as u32, ring_set, ring, vertex)
 }

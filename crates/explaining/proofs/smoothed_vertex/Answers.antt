@@ -11,11 +11,11 @@ pub returns-in_err-grid_fit : goal.returns-in_err-grid_fit
 unfolding vertex_answer on_grid
 returns-in_err-grid_fit c = rw (passed-on _ c.from_residual.ensures.1, sym c.grid_fit.ensures ∙ c.in_err-grid_fit.was)
 
-pub returns-in_err-set : goal.returns-in_err-set
+pub returns-in_err-ring_set : goal.returns-in_err-ring_set
 unfolding vertex_answer on_grid
-returns-in_err-set c =
-    let why = c.in_err-set.ensures in
-    rw (passed-on _ c.from_residual-in_err-set.ensures.1, sym c.grid_fit.ensures ∙ c.in_ok-grid_fit.was, why.0, why.1)
+returns-in_err-ring_set c =
+    let why = c.in_err-ring_set.ensures in
+    rw (passed-on _ c.from_residual-in_err-ring_set.ensures.1, sym c.grid_fit.ensures ∙ c.in_ok-grid_fit.was, why.0, why.1)
 
 pub overflow_cast-dx : goal.overflow_cast-dx
 unfolding side_limit
@@ -28,7 +28,7 @@ overflow_cast-dy c = omega (arith, a-grid-that-fits-is-sized _ _ _ (sym c.grid_f
 pub returns : goal.returns
 unfolding vertex_answer on_grid
 returns c =
-    let same = c.in_ok-set.ensures in
-    let checked = rw (same.0, same.1, same.2) at c.in_ok-set.set.checked in
+    let same = c.in_ok-ring_set.ensures in
+    let checked = rw (same.0, same.1, same.2) at c.in_ok-ring_set.ring_set.checked in
     let told = rw (same.0, same.1, same.2) at c.vertex_told.ensures in
     rw (sym c.grid_fit.ensures ∙ c.in_ok-grid_fit.was, checked, told)
