@@ -195,6 +195,7 @@ fn vertex_told(
 
 // What smoothing does to each coordinate of a vertex of a ring of a ring set, at a level of a grid. Numbers 1 and 2 where the grid does not fit, 9 where the ring set is
 // faulty, and 15 where there is no such vertex midway between two samples.
+#[tactic(auto, unfolding(crate::specs::Vertices::vertex_answer, crate::specs::Vertices::on_grid))]
 pub fn smoothed_vertex(
     values: &[f64],
     level: Level,
