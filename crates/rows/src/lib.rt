@@ -3,7 +3,7 @@
 // over the frontier's words before it changes anything else, so that it is taken whole or refused whole.
 #![tactic(auto)]
 
-ghost use Rattle.std.specs.Prelude.{◌≡◌, not, ◌≤◌, length};
+ghost use Rattle.std.specs.Prelude.{◌≡◌, not, ◌&&◌, ltb, leb, ◌≤◌, length};
 ghost use Rattle.scope.specs.Limits.{side_limit};
 ghost use Rattle.grid.specs.Grid.{Sized, bad_side};
 ghost use Rattle.rows.specs.Called.{row_words, no_words, blank, begun_state, begun_answer, tried, lines_tried, answer_by, lines_restored, taken, advanced, row_called, end_called};
@@ -43,11 +43,19 @@ pub struct Step {
     pub answer: Result<u32, Refusal>,
 }
 
+// Whether a side is within the limit.
+#[tactic(auto, unfolding(scope::specs::Limits::side_limit))]
+fn side_fits(side: usize) -> bool
+    ensures { result ≡ ltb 0 side && leb side side_limit }
+{
+    (1..=SIDE_LIMIT).contains(&side)
+}
+
 // Whether both sides are within the limit.
 fn sides_fit(dx: usize, dy: usize) -> bool
     ensures { result ≡ not (bad_side dx dy) }
 {
-    (dx != 0) & (dx <= SIDE_LIMIT) & (dy != 0) & (dy <= SIDE_LIMIT)
+    side_fits(dx) & side_fits(dy)
 }
 
 // A state before the first row.
