@@ -127,6 +127,7 @@ fn trial_of(state: Rows, lower: &[u64; ROW_WORDS], lines: &mut [u32]) -> Trial
 }
 
 // The answer to a row of cells that comes to this, lent that many words and records.
+#[tactic(auto, unfolding(crate::specs::Called::answer_by))]
 fn answer_of(
     trial: Trial,
     dx: usize,
@@ -154,6 +155,7 @@ fn answer_of(
 }
 
 // The frontier behind a trial that was refused: noted anew, but for the first row, which was not tried over it.
+#[tactic(auto, unfolding(crate::specs::Called::lines_restored))]
 fn restore(lines: &mut [u32], links: &[u32], dx: u32, drawn: u32, count: u32)
     requires { dx ≤ side_limit }
     ensures { lines.new ≡ lines_restored dx drawn count links.now lines.old }
