@@ -1,4 +1,5 @@
 // A band of two thresholds: which refusals come before any room is asked for, both reports, and the stitching passes and the packing that isobands is built on.
+// Kept: the parameters of both reports one by one, as the calls of `contour` have them.
 #![tactic(auto)]
 
 ghost use Rattle.std.specs.Prelude.{◌≡◌, suc, max, ◌+◌, ◌^◌, ◌≤◌, ◌<◌, ltb, length};

@@ -1,4 +1,5 @@
 // Contours and isobands of a grid, over tables that the caller lends: every ring with its class and its owner, or none. Neither asks anything of the caller.
+// Kept: the parameters of `contours` and `isobands` one by one, as the calls of `contour` have them.
 #![tactic(auto)]
 
 ghost use Rattle.std.specs.Prelude.{◌≡◌, Bool, true, false, ◌≤◌, length};

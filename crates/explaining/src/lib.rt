@@ -1,5 +1,6 @@
 // Why a ring is what it is: its fate by the points of a ring set, what one ring of the set answers for another, and what smoothing does to a vertex. Nothing is
 // asked of the caller, no table is lent but the set itself, and nothing changes.
+// Kept: the parameters of the three public calls one by one, as the calls of `contour` have them.
 #![tactic(auto)]
 
 ghost use Rattle.std.specs.Prelude.{◌≡◌, ◌<◌};

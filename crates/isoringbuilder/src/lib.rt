@@ -1,5 +1,6 @@
 // The rings of a grid at one level, over tables that the caller lends: the second report, which gives all room, and contour_rings, which gives every
 // ring or none. Neither asks anything of the caller: bad sides, lengths or room draw the lowest refusal that applies.
+// Kept: the parameters of `second_report` and `contour_rings` one by one, as the calls of `contour` have them.
 #![tactic(auto)]
 
 ghost use Rattle.std.specs.Prelude.{◌≡◌, ◌≤◌};

@@ -145,6 +145,7 @@ fn replay_text(rt: &impl Print, text: &[u8; TEXT], length: usize) -> io::Result<
 }
 
 // Reads until the bytes are full or the input ends, and says how many it has read.
+// Kept: no heap, as in `contour_geojson`, which has this function too: a public one needs a contract that gives its result, and none says what a reader gives.
 fn read_full(input: &mut impl Read, bytes: &mut [u8]) -> io::Result<usize> {
     let mut done: usize = 0;
     while done < bytes.len() {

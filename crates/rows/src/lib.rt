@@ -37,6 +37,7 @@ pub struct Rows {
 }
 
 // The state after a call, and what the call answers: how many rings it has given out, or why it was refused, which leaves the state as it was.
+// Kept: a struct and no `Result` of the state, since a refused call promises which state it leaves.
 #[derive(Clone, Copy)]
 pub struct Step {
     pub state: Rows,
