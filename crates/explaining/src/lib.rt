@@ -93,6 +93,7 @@ fn hole_told(set: RingSet, ring: u32) -> RingFate
 
 // What becomes of a ring of a contour, by the points of the ring set and not by the words of its records: what `contours` would have written for these rings. Number 9
 // where the ring set is faulty, and 15 where there is no ring of this number.
+#[tactic(auto, using(crate::proofs::Owners::fate_found, crate::proofs::Owners::fate_of), unfolding(crate::specs::Fates::fate_answer))]
 pub fn ring_fate(
     points: &[u16],
     directory: &[u32],
