@@ -117,12 +117,9 @@ unfolding total
 total-by [] = refl
 total-by (w ∷ ws) = rw (sum_by-cons letters w ws, total-by ws)
 
-each-short : (ws : List ℕ) → ((i : ℕ) → get_or ws i 0 < 2 ^ 16) → sum_by letters ws ≤ 7 * length ws
-each-short [] fits = omega arith
-each-short (w ∷ ws) fits = omega (arith, sum_by-cons letters w ws, coordinate-short w (fits 0), each-short ws (λ i. fits (suc i)))
-
 pub letters-short : (ws : List ℕ) → ((i : ℕ) → Fits w16 (get_or ws i 0)) → sum_by letters ws ≤ 7 * length ws
-letters-short ws fits = each-short ws (λ i. (fits i).fits)
+letters-short [] fits = omega arith
+letters-short (w ∷ ws) fits = omega (arith, sum_by-cons letters w ws, coordinate-short w (fits 0).fits, letters-short ws (λ i. fits (suc i)))
 
 pub ring_by_letters : (ws : List ℕ) → length ws % 2 ≡ 0 → 0 < length ws → length (ring_text (points ws)) ≡ sum_by letters ws + 2 * length ws + 1
 ring_by_letters ws even more = omega (arith, ring-length ws (length ws / 2) (omega arith) (omega arith), total-by ws)
