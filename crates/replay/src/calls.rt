@@ -22,11 +22,9 @@ pub const VALUES: usize = 4104;
 pub const PLACED: f64 = 7.0;
 
 pub fn level(case: Case) -> Level {
-    let list = case.list;
-    let rule = list.rule;
     Level {
-        threshold: list.lower,
-        rule,
+        threshold: case.list.lower,
+        rule: case.list.rule,
     }
 }
 
@@ -38,8 +36,7 @@ fn report_first(case: Case, grid: &[f64]) -> Result<FirstReport, Refusal> {
 // The first report of a band.
 fn report_band_first(case: Case, grid: &[f64], thresholds: &[f64]) -> Result<FirstReport, Refusal> {
     let list = case.list;
-    let rule = list.rule;
-    band_first_report(grid, thresholds, rule, list.k, case.dx, case.dy)
+    band_first_report(grid, thresholds, list.rule, list.k, case.dx, case.dy)
 }
 
 // The second report of one threshold.
@@ -61,9 +58,8 @@ fn report_band_second(
     links: &mut [u32],
 ) -> Result<SecondReport, Refusal> {
     let list = case.list;
-    let rule = list.rule;
     band_second_report(
-        grid, thresholds, rule, list.k, case.dx, case.dy, lines, links,
+        grid, thresholds, list.rule, list.k, case.dx, case.dy, lines, links,
     )
 }
 
@@ -105,9 +101,8 @@ fn build_band(
     directory: &mut [u32],
 ) -> Result<u32, Refusal> {
     let list = case.list;
-    let rule = list.rule;
     isobands(
-        grid, thresholds, rule, list.k, case.dx, case.dy, lines, links, points, directory,
+        grid, thresholds, list.rule, list.k, case.dx, case.dy, lines, links, points, directory,
     )
 }
 
@@ -136,8 +131,7 @@ fn build_lines(
 
 // The first report of a band, or of one threshold.
 fn run_first(case: Case, grid: &[f64], thresholds: &[f64]) -> Result<FirstReport, Refusal> {
-    let build = case.build;
-    match build {
+    match case.build {
         Build::Band => report_band_first(case, grid, thresholds),
         _ => report_first(case, grid),
     }
@@ -151,8 +145,7 @@ fn run_second(
     lines: &mut [u32],
     links: &mut [u32],
 ) -> Result<SecondReport, Refusal> {
-    let build = case.build;
-    match build {
+    match case.build {
         Build::Band => report_band_second(case, grid, thresholds, lines, links),
         _ => report_second(case, grid, lines, links),
     }
@@ -169,8 +162,7 @@ fn run_build(
     floats: &mut [f64],
     directory: &mut [u32],
 ) -> Result<u32, Refusal> {
-    let build = case.build;
-    match build {
+    match case.build {
         Build::Rings => build_rings(case, grid, lines, links, points, directory),
         Build::Contour => build_contour(case, grid, lines, links, points, directory),
         Build::Band => build_band(case, grid, thresholds, lines, links, points, directory),
@@ -273,8 +265,7 @@ fn build_holds(
     records: &[u32],
     listed: &[u32],
 ) -> bool {
-    let build = case.build;
-    let floating = has_floats(build);
+    let floating = has_floats(case.build);
     let mut lines = [SOIL; WORDS];
     let mut links = [SOIL; WORDS];
     let mut points = [SOILED; WORDS];

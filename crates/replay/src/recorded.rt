@@ -5,7 +5,9 @@ ghost use Rattle.std.specs.Prelude.{◌≤◌};
 
 use crate::areas::area_of;
 use crate::calls::{VALUES, case_holds, has_floats, level, outputs_hold, words_if, work_holds};
-use crate::cases::{Build, Case, Lending, Room, built_agrees, lent_room, short_refusal};
+use crate::cases::{
+    Build, Case, Drawing, Lending, List, Room, built_agrees, lent_room, short_refusal,
+};
 use crate::tables::{FLOAT_SOIL, SOIL, SOILED, WORDS, after, floats_part, front, front_mut};
 use crate::text::NUMBERS;
 use crate::texts::set_holds;
@@ -29,17 +31,11 @@ fn run_tried(
 ) -> Tried
     requires { n ≤ 128 }
 {
-    let build = case.build;
     let level = level(case);
-    let list = case.list;
-    let rule = list.rule;
-    let k = list.k;
-    let dx = case.dx;
-    let dy = case.dy;
-    let drawing = case.drawing;
-    let smooth = drawing.smooth;
-    let placement = drawing.placement;
-    match build {
+    let List { rule, k, .. } = case.list;
+    let Drawing { smooth, placement } = case.drawing;
+    let Case { dx, dy, .. } = case;
+    match case.build {
         Build::Rings => try_rings(grid, level, dx, dy, lines, links, points, directory, n),
         Build::Contour => try_contour(grid, level, dx, dy, lines, links, points, directory, n),
         Build::Band => try_band(
@@ -53,11 +49,10 @@ fn run_tried(
 
 // Whether a record, which is that of number k, stands for the six words that a directory begins with.
 fn same_record(record: RingRecord, k: u32, directory: &[u32]) -> bool {
-    let fate = record.fate;
     record.first == word(directory, 0)
         && record.count == word(directory, 1)
-        && class_word(fate) == word(directory, 2)
-        && owner_word(k, fate) == word(directory, 3)
+        && class_word(record.fate) == word(directory, 2)
+        && owner_word(k, record.fate) == word(directory, 3)
         && record.area == area_of(word(directory, 4), word(directory, 5))
 }
 
@@ -101,8 +96,7 @@ fn tried_holds(
 ) -> bool
     requires { n ≤ 128 }
 {
-    let build = case.build;
-    let floating = has_floats(build);
+    let floating = has_floats(case.build);
     let mut lines = [SOIL; WORDS];
     let mut links = [SOIL; WORDS];
     let mut points = [SOILED; WORDS];
@@ -119,11 +113,9 @@ fn tried_holds(
         front_mut(&mut directory, room.recorded),
         n,
     );
-    let answer = tried.answer;
-    let left = tried.records;
     let rings = case.counts.rings;
-    built_agrees(answer, rings, refusal)
-        & records_hold(left, rings_written(refusal, rings), records)
+    built_agrees(tried.answer, rings, refusal)
+        & records_hold(tried.records, rings_written(refusal, rings), records)
         & work_holds(case.room, room, refusal, &lines, &links)
         & outputs_hold(
             case.room,
@@ -162,11 +154,10 @@ fn readers_hold(case: Case, grid: &[f64], thresholds: &[f64]) -> bool {
         front_mut(&mut directory, room.recorded),
         ROOM,
     );
-    let left = tried.records;
     set_holds(
         front(&points, room.worded),
         front_mut(&mut directory, room.recorded),
-        left,
+        tried.records,
         case.counts.rings,
     )
 }
@@ -174,7 +165,6 @@ fn readers_hold(case: Case, grid: &[f64], thresholds: &[f64]) -> bool {
 // Whether the build by records answers as expected with as many records as rings, with more, with one fewer, and with a directory that is a word short; and whether
 // what it writes, where it has a text, is read as by words. More rings than there are records for are a difference.
 fn case_tried_holds(case: Case, records: &[u32], listed: &[u32], values: &[f64; VALUES]) -> bool {
-    let build = case.build;
     let rings = case.counts.rings as usize;
     if ROOM < rings {
         return false;
@@ -209,7 +199,7 @@ fn case_tried_holds(case: Case, records: &[u32], listed: &[u32], values: &[f64; 
                 records,
                 listed,
             ))
-        & (!has_text(build) || readers_hold(case, grid, thresholds))
+        & (!has_text(case.build) || readers_hold(case, grid, thresholds))
 }
 
 // Whether a case holds by words and by records.

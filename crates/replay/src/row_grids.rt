@@ -98,10 +98,8 @@ fn judged(
     points: &[u16; WORDS],
     directory: &mut [u32; WORDS],
 ) -> Run {
-    let step = answer.step;
-    let built = step.answer;
-    let state = step.state;
-    match built {
+    let state = answer.step.state;
+    match answer.step.answer {
         Err(_) => advanced(run, state, 0, false),
         Ok(rings) => {
             let holds = needs_hold(answer.withheld, rings, state.fresh)

@@ -119,11 +119,10 @@ fn short_set_refused(
 
 // Stores the words of a first record but for its area.
 fn put_first(directory: &mut [u32], record: RingRecord) {
-    let fate = record.fate;
     put(directory, 0, record.first);
     put(directory, 1, record.count);
-    put(directory, 2, class_word(fate));
-    put(directory, 3, owner_word(0, fate));
+    put(directory, 2, class_word(record.fate));
+    put(directory, 3, owner_word(0, record.fate));
 }
 
 // The records with another first one.
