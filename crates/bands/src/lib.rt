@@ -1,12 +1,11 @@
 // A band of two thresholds: which refusals come before any room is asked for, both reports, and the stitching passes and the packing that isobands is built on.
+// Kept: the parameters of both reports one by one, as the calls of `contour` have them.
 #![tactic(auto)]
 
 ghost use Rattle.std.specs.Prelude.{◌≡◌, suc, max, ◌+◌, ◌^◌, ◌≤◌, ◌<◌, ltb, length};
-ghost use Rattle.scope.specs.Terrain.{above_at, terrain};
 ghost use Rattle.scope.specs.Room.{band_point_words};
 ghost use Rattle.machine.specs.Walk.{walk_points, walk_records};
-ghost use Rattle.grid.specs.Grid.{grid_fit, Sized};
-ghost use Rattle.scan.specs.Rows.{Marked};
+ghost use Rattle.scan.specs.Rows.{sheet_of, Marked};
 ghost use Rattle.scan.specs.Scanned.{scanned};
 ghost use Rattle.bands.specs.Bands.{band_fit, fit_pair, band_room_of, band_first_report, ReportedOver, BandReported};
 ghost use Rattle.bands.specs.Passing.{BandPassed, stored_from, BandPacked};
@@ -86,21 +85,20 @@ pub fn band_pair(
 }
 
 // The counts of a grid that fits at one level.
-fn counts_of(values: &[f64], level: Level, dx: usize, dy: usize) -> Counts
-    requires { grid_fit (length values.now) dx dy ≡ Ok tt }
-    ensures { result ≡ scanned (terrain (above_at level) values.now dx dy) dx dy }
+fn counts_of(grid: Grid, level: Level) -> Counts
+    ensures { result ≡ scanned (sheet_of grid.entry level) grid.entry.dx grid.entry.dy }
 {
     let mut marks = [0u8; TILES];
-    scan(Grid { values, dx, dy }, level, &mut marks)
+    scan(grid, level, &mut marks)
 }
 
 // The larger segment count and the larger peak of two levels, for a grid that fits.
-fn room_of(values: &[f64], lower: Level, upper: Level, dx: usize, dy: usize) -> FirstReport
-    requires { grid_fit (length values.now) dx dy ≡ Ok tt }
-    ensures { result ≡ band_room_of (terrain (above_at lower) values.now dx dy) (terrain (above_at upper) values.now dx dy) dx dy }
+#[tactic(auto, unfolding(crate::specs::Bands::band_room_of, scan::specs::Scanned::scanned))]
+fn room_of(grid: Grid, levels: BandLevels) -> FirstReport
+    ensures { result ≡ band_room_of (sheet_of grid.entry levels.lower) (sheet_of grid.entry levels.upper) grid.entry.dx grid.entry.dy }
 {
-    let below = counts_of(values, lower, dx, dy);
-    let above = counts_of(values, upper, dx, dy);
+    let below = counts_of(grid, levels.lower);
+    let above = counts_of(grid, levels.upper);
     FirstReport {
         segments: below.segments.max(above.segments),
         peak: below.peak.max(above.peak),
@@ -119,33 +117,30 @@ pub fn band_first_report(
     ensures { result ≡ band_first_report values.now thresholds.now rule k dx dy }
 {
     let levels = band_pair(values.len(), dx, dy, thresholds, rule, k)?;
-    Ok(room_of(values, levels.lower, levels.upper, dx, dy))
+    Ok(room_of(Grid { values, dx, dy }, levels))
 }
 
 // The stitching passes of a band over a grid that fits, the lower set and then the upper: both work tables are tested for the larger need, and nothing is
 // touched where one is short. The marks are those of the lower set.
 pub fn band_pass(
-    values: &[f64],
-    lower: Level,
-    upper: Level,
-    dx: usize,
-    dy: usize,
+    grid: Grid,
+    levels: BandLevels,
     marks: &mut [u8; TILES],
     lines: &mut [u32],
     links: &mut [u32],
 ) -> Result<BandDrawing, Refusal>
-    requires { (grid_fit (length values.now) dx dy ≡ Ok tt) × (length marks.old ≡ 4096) }
-    ensures { BandPassed values.now lower upper dx dy lines.old links.old result
+    requires { length marks.old ≡ 4096 }
+    ensures { BandPassed grid.entry.values.now levels.lower levels.upper grid.entry.dx grid.entry.dy lines.old links.old result
         lines.new links.new marks.new }
 {
+    let BandLevels { lower, upper } = levels;
     let mut upper_marks = [0u8; TILES];
-    let grid = Grid { values, dx, dy };
     let below = scan(grid, lower, marks);
     let above = scan(grid, upper, &mut upper_marks);
     let lower_segments = below.segments;
     let upper_segments = above.segments;
     let peak = below.peak.max(above.peak);
-    if lines.len() < open_words(dx, peak) {
+    if lines.len() < open_words(grid.dx, peak) {
         return Err(Refusal::OpenShort);
     }
     if links.len() < link_words(lower_segments.max(upper_segments)) {
@@ -168,25 +163,21 @@ pub fn band_pass(
 
 // The second report of a band between two levels, for a grid that fits.
 fn report_over(
-    values: &[f64],
-    lower: Level,
-    upper: Level,
-    dx: usize,
-    dy: usize,
+    grid: Grid,
+    levels: BandLevels,
     lines: &mut [u32],
     links: &mut [u32],
 ) -> Result<SecondReport, Refusal>
-    requires { grid_fit (length values.now) dx dy ≡ Ok tt }
-    ensures { ReportedOver (Ok tt) (terrain (above_at lower) values.now dx dy) (terrain (above_at upper) values.now dx dy) dx dy
+    ensures { ReportedOver (Ok tt) (sheet_of grid.entry levels.lower) (sheet_of grid.entry levels.upper) grid.entry.dx grid.entry.dy
         lines.old links.old result lines.new links.new }
 {
     let mut marks = [0u8; TILES];
-    let drawing = band_pass(values, lower, upper, dx, dy, &mut marks, lines, links)?;
+    let drawing = band_pass(grid, levels, &mut marks, lines, links)?;
     let peak = drawing.peak;
     let segments = drawing.lower_segments.max(drawing.upper_segments);
     let rings = drawing.lower_rings + drawing.upper_rings;
     let points = drawing.lower_segments + drawing.upper_segments + rings;
-    clear(lines, open_words(dx, peak));
+    clear(lines, open_words(grid.dx, peak));
     clear(links, link_words(segments));
     Ok(SecondReport {
         segments,
@@ -211,10 +202,11 @@ pub fn band_second_report(
     ensures { BandReported values.now thresholds.now rule k dx dy lines.old links.old result lines.new links.new }
 {
     let levels = band_pair(values.len(), dx, dy, thresholds, rule, k)?;
-    report_over(values, levels.lower, levels.upper, dx, dy, lines, links)
+    report_over(Grid { values, dx, dy }, levels, lines, links)
 }
 
 // The words that the points of both sets need: the sum of the two.
+#[tactic(auto, unfolding(scope::specs::Room::point_words, scope::specs::Room::point_count, scope::specs::Room::band_point_words))]
 pub fn band_point_words(drawing: BandDrawing) -> usize
     ensures { result ≡ band_point_words drawing.lower_segments drawing.lower_rings drawing.upper_segments drawing.upper_rings }
 {
@@ -251,19 +243,17 @@ fn write_behind(
 // stitched last, goes behind the room of the lower; then the lower set is stitched again and goes in front.
 pub fn band_pack(
     drawing: BandDrawing,
-    values: &[f64],
+    grid: Grid,
     lower: Level,
-    dx: usize,
-    dy: usize,
     marks: &[u8; TILES],
     lines: &mut [u32],
     links: &mut [u32],
     points: &mut [u16],
     directory: &mut [u32],
 ) -> Result<u32, Refusal>
-    requires { Sized (length values.now) dx dy × Marked (terrain (above_at lower) values.now dx dy) (suc dy) marks.now
+    requires { Marked (sheet_of grid lower) (suc grid.dy) marks.now
         × (drawing.lower_rings + drawing.upper_rings < 2 ^ 32) }
-    ensures { BandPacked (terrain (above_at lower) values.now dx dy) dx dy drawing lines.old links.old points.old directory.old result
+    ensures { BandPacked (sheet_of grid.entry lower) grid.entry.dx grid.entry.dy drawing lines.old links.old points.old directory.old result
         lines.new links.new points.new directory.new }
 {
     let lower_segments = drawing.lower_segments;
@@ -271,6 +261,7 @@ pub fn band_pack(
     let upper_segments = drawing.upper_segments;
     let upper_rings = drawing.upper_rings;
     let head = drawing.head;
+    let dx = grid.dx as u32;
     let words = point_words(lower_segments, lower_rings);
     if points.len() < band_point_words(drawing) {
         return Err(Refusal::PointsShort);
@@ -282,7 +273,7 @@ pub fn band_pack(
     let records = SHORT_STRIDE * (lower_rings as usize);
     write_behind(
         links,
-        dx as u32,
+        dx,
         head,
         upper_segments,
         points,
@@ -290,8 +281,8 @@ pub fn band_pack(
         directory,
         records,
     );
-    let again = stitch(Grid { values, dx, dy }, lower, marks, lines, links);
+    let again = stitch(grid, lower, marks, lines, links);
     let first = again.head;
-    write_rings(links, dx as u32, first, lower_segments, points, directory);
+    write_rings(links, dx, first, lower_segments, points, directory);
     Ok(rings)
 }

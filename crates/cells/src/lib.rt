@@ -11,6 +11,7 @@ use scope::{Level, Rule, Side};
 
 // Whether a sample is above at the level of a threshold and a rule's number: its value is at least the threshold, or more than it. Where either is not a number
 // it is not above.
+// Kept: a number for the rule, since samples are tested together only where the compiler sees a literal (docs/DECISIONS.md has the times).
 #[tactic(auto, unfolding(scope::specs::Terrain::is_above, scope::specs::Terrain::above_at, crate::specs::Rules::rule_of, crate::specs::Rules::level_of))]
 pub fn above(threshold: f64, number: u32, value: f64) -> bool
     ensures { result ≡ above_at (level_of threshold number) value }

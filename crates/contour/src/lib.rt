@@ -28,6 +28,8 @@ use scan::FirstReport;
 use scope::{Level, Rule};
 use smoothing::{Placement, VertexMoves};
 
+// Kept: in all these calls tables and numbers one by one, since they ask nothing, users name them, and C hands its own so.
+
 // The segments that a grid draws at a level and the peak of its open lines, or the lowest refusal that applies, alone.
 pub fn first_report(
     values: &[f64],

@@ -1,5 +1,6 @@
 // The library for C and Rust. Each entry answers on every input: it returns 0 and sets the outputs, or returns the refusal's number and leaves the outputs as
 // they were. A rule passes as its number. A slice passes as a pointer, then a length; the words of a state, whose number is fixed, as a pointer alone.
+// Kept: names and parameters one by one, numbers for rules and kinds: the C interface.
 #![tactic(auto)]
 
 ghost use Rattle.std.specs.Prelude.{◌≡◌};

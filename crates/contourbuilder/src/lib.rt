@@ -1,18 +1,19 @@
 // Contours and isobands of a grid, over tables that the caller lends: every ring with its class and its owner, or none. Neither asks anything of the caller.
+// Kept: the parameters of `contours` and `isobands` one by one, as the calls of `contour` have them.
 #![tactic(auto)]
 
-ghost use Rattle.std.specs.Prelude.{◌≡◌, ◌≤◌, length};
-ghost use Rattle.scope.specs.Terrain.{above_at, terrain};
+ghost use Rattle.std.specs.Prelude.{◌≡◌, Bool, true, false, ◌≤◌, length};
 ghost use Rattle.scope.specs.Room.{directory_words};
 ghost use Rattle.scope.specs.Tables.{written, short_of, record_of};
-ghost use Rattle.grid.specs.Grid.{grid_fit};
+ghost use Rattle.scan.specs.Rows.{sheet_of};
 ghost use Rattle.bands.specs.Bands.{BuiltOver, BandBuilt};
 ghost use Rattle.regions.specs.Regions.{counted_rings, Workable};
 ghost use Rattle.contourbuilder.specs.Contours.{ContoursBuilt};
 ghost use Rattle.contourbuilder.specs.Owning.{records_by, Ownable, OwnersFound};
 
-use bands::{band_pack, band_pair, band_pass, band_point_words};
+use bands::{BandLevels, band_pack, band_pair, band_pass, band_point_words};
 use error::Refusal;
+use grid::Grid;
 use isoringbuilder::{link_words, open_words, pack, point_words, run_pass};
 use packing::clear;
 use regions::{own_band, own_contour};
@@ -20,32 +21,53 @@ use scan::TILES;
 use scope::{Level, Rule};
 use spreading::spread;
 
-// The records of `n` rings without areas: those of a band, in its sorted order, or those of a contour.
-fn own_short(band: bool, points: &[u16], directory: &mut [u32], n: usize, scratch: &mut [u32])
-    requires { Workable points.now directory.old scratch.old n }
-    ensures { directory.new ≡ written (records_by short_of band (counted_rings points.now directory.old 0 n)) directory.old }
-{
-    if band {
-        own_band(points, directory, n, scratch);
-    } else {
+// Which records rings are given: those of a contour, or those of a band.
+trait Records {
+    ghost band: { Bool };
+
+    // The records of `n` rings without areas.
+    fn own_short(points: &[u16], directory: &mut [u32], n: usize, scratch: &mut [u32])
+        requires { Workable points.now directory.old scratch.old n }
+        ensures { directory.new ≡ written (records_by short_of band (counted_rings points.now directory.old 0 n)) directory.old };
+}
+
+// By ring number.
+struct Contour;
+
+impl Records for Contour {
+    ghost band = { false };
+
+    #[tactic(auto, unfolding(crate::specs::Owning::records_by))]
+    fn own_short(points: &[u16], directory: &mut [u32], n: usize, scratch: &mut [u32]) {
         own_contour(points, directory, n, scratch);
     }
 }
 
-// The records of `n` rings: those of a band, in its sorted order, or those of a contour.
-fn own_either(band: bool, points: &[u16], directory: &mut [u32], n: usize, scratch: &mut [u32])
+// In the band's sorted order.
+struct Band;
+
+impl Records for Band {
+    ghost band = { true };
+
+    #[tactic(auto, unfolding(crate::specs::Owning::records_by))]
+    fn own_short(points: &[u16], directory: &mut [u32], n: usize, scratch: &mut [u32]) {
+        own_band(points, directory, n, scratch);
+    }
+}
+
+// The records of `n` rings, with areas.
+fn own_whole<R: Records>(points: &[u16], directory: &mut [u32], n: usize, scratch: &mut [u32])
     requires { Workable points.now directory.old scratch.old n × (directory_words n ≤ length directory.old) }
-    ensures { directory.new ≡ written (records_by record_of band (counted_rings points.now directory.old 0 n)) directory.old }
+    ensures { directory.new ≡ written (records_by record_of R.band (counted_rings points.now directory.old 0 n)) directory.old }
 {
-    own_short(band, points, directory, n, scratch);
+    R::own_short(points, directory, n, scratch);
     spread(points, directory, n);
 }
 
 // The records of the rings that were written, where any were. The first `words` words of the
 // link table are worked in, and the first `filled` words of the points are read.
-fn own_rings(
+fn own_rings<R: Records>(
     answer: Result<u32, Refusal>,
-    band: bool,
     words: usize,
     links: &mut [u32],
     filled: usize,
@@ -53,11 +75,11 @@ fn own_rings(
     directory: &mut [u32],
 )
     requires { Ownable answer words links.old filled points.now directory.old }
-    ensures { OwnersFound band answer words links.old links.new filled points.now directory.old directory.new }
+    ensures { OwnersFound R.band answer words links.old links.new filled points.now directory.old directory.new }
 {
     if let Ok(rings) = answer {
         let drawn = &points[..filled];
-        own_either(band, drawn, directory, rings as usize, &mut links[..words]);
+        own_whole::<R>(drawn, directory, rings as usize, &mut links[..words]);
     }
 }
 
@@ -81,7 +103,7 @@ pub fn contours(
     let segments = drawing.segments;
     let words = link_words(segments);
     let filled = point_words(segments, drawing.rings);
-    own_rings(answer, false, words, links, filled, points, directory);
+    own_rings::<Contour>(answer, words, links, filled, points, directory);
     clear(lines, open_words(dx, drawing.peak));
     clear(links, words);
     answer
@@ -89,31 +111,34 @@ pub fn contours(
 
 // The band between two levels, for a grid that fits.
 fn band_over(
-    values: &[f64],
-    lower: Level,
-    upper: Level,
-    dx: usize,
-    dy: usize,
+    grid: Grid,
+    levels: BandLevels,
     lines: &mut [u32],
     links: &mut [u32],
     points: &mut [u16],
     directory: &mut [u32],
 ) -> Result<u32, Refusal>
-    requires { grid_fit (length values.now) dx dy ≡ Ok tt }
-    ensures { BuiltOver (Ok tt) (terrain (above_at lower) values.now dx dy) (terrain (above_at upper) values.now dx dy) dx dy
+    ensures { BuiltOver (Ok tt) (sheet_of grid.entry levels.lower) (sheet_of grid.entry levels.upper) grid.entry.dx grid.entry.dy
         lines.old links.old points.old directory.old result
         lines.new links.new points.new directory.new }
 {
     let mut marks = [0u8; TILES];
-    let drawing = band_pass(values, lower, upper, dx, dy, &mut marks, lines, links)?;
+    let drawing = band_pass(grid, levels, &mut marks, lines, links)?;
     let answer = band_pack(
-        drawing, values, lower, dx, dy, &marks, lines, links, points, directory,
+        drawing,
+        grid,
+        levels.lower,
+        &marks,
+        lines,
+        links,
+        points,
+        directory,
     );
     let segments = drawing.lower_segments.max(drawing.upper_segments);
     let words = link_words(segments);
     let filled = band_point_words(drawing);
-    own_rings(answer, true, words, links, filled, points, directory);
-    clear(lines, open_words(dx, drawing.peak));
+    own_rings::<Band>(answer, words, links, filled, points, directory);
+    clear(lines, open_words(grid.dx, drawing.peak));
     clear(links, words);
     answer
 }
@@ -138,11 +163,8 @@ pub fn isobands(
 {
     let levels = band_pair(values.len(), dx, dy, thresholds, rule, k)?;
     band_over(
-        values,
-        levels.lower,
-        levels.upper,
-        dx,
-        dy,
+        Grid { values, dx, dy },
+        levels,
         lines,
         links,
         points,

@@ -6,9 +6,9 @@ ghost use Rattle.std.specs.Prelude.{◌≡◌};
 ghost use Rattle.extents.specs.Points.{ring_in};
 ghost use Rattle.deciding.specs.Decisions.{decision_of, RingLies, RingCloses};
 
-use area::point_at;
+use area::{Containment, point_at};
 use extents::Span;
-use taking::{Place, along};
+use taking::along;
 
 // What the vertices of a ring come to against another ring, the outer one.
 #[derive(Clone, Copy)]
@@ -36,9 +36,9 @@ pub fn decide(points: &[u16], outer: Span, ring: Span) -> Decision
         }
         let place = along(points, outer.first, last, p, false);
         match place {
-            Place::Boundary => continue,
-            Place::Inside => return Decision::Inside(v as u32),
-            Place::Outside => return Decision::Outside(v as u32),
+            Containment::Boundary => continue,
+            Containment::Inside => return Decision::Inside(v as u32),
+            Containment::Outside => return Decision::Outside(v as u32),
         }
     }
     Decision::Undecided

@@ -1,5 +1,4 @@
 -- The laws that the proofs of this crate share.
-pub mod Checking
 pub mod Rings
 pub mod Owners
 pub mod Drawn

@@ -80,13 +80,12 @@ module _ (ps directory : List ℕ) where
     -- ---- the walk
 
     pub record Sought (rings k : ℕ) : Type 0 where
-      pub not-past : k ≤ rings
       pub left : owner_among 0 rings ≡ owner_among k (rings - k)
 
     pub sought-begin : (rings : ℕ) → Sought rings 0
     sought-begin rings =
         let all : rings - 0 ≡ rings = omega arith in
-        record { not-past = omega arith; left = rw all refl }
+        record { left = rw all refl }
 
     module _ {rings k : ℕ} (s : Sought rings k) where
       sought-next : k < rings → owner_among 0 rings ≡ cond (is_polygon_by ps directory k && takes (ring_at ps directory k) ring) (hole k) (owner_among (k + 1) (rings - (k + 1)))
@@ -96,10 +95,10 @@ module _ (ps directory : List ℕ) where
 
       -- a ring that is no polygon, or that does not take the ring, is passed
       pub not-a-polygon : k < rings → is_polygon_by ps directory k ≡ false → Sought rings (k + 1)
-      not-a-polygon h e = record { not-past = omega arith; left = sought-next h ∙ rw e refl }
+      not-a-polygon h e = record { left = sought-next h ∙ rw e refl }
 
       pub not-the-owner : k < rings → is_polygon_by ps directory k ≡ true → takes (ring_at ps directory k) ring ≡ false → Sought rings (k + 1)
-      not-the-owner h e f = record { not-past = omega arith; left = sought-next h ∙ rw (e, f) refl }
+      not-the-owner h e f = record { left = sought-next h ∙ rw (e, f) refl }
 
       -- any other is the owner
       pub the-owner : k < rings → is_polygon_by ps directory k ≡ true → takes (ring_at ps directory k) ring ≡ true →
@@ -175,9 +174,9 @@ module _ (ps directory : List ℕ) where
     told-shows h line s = absurd s
 
     -- the fate of a ring of the set, polygon or not
-    pub fate-of : i < rings → fate_told (rings_in ps directory rings) i ≡ cond (is_polygon_by ps directory i) fate-is.Polygon (hole_told (rings_in ps directory rings) (ring_at ps directory i))
+    pub fate_of : i < rings → fate_told (rings_in ps directory rings) i ≡ cond (is_polygon_by ps directory i) fate-is.Polygon (hole_told (rings_in ps directory rings) (ring_at ps directory i))
     unfolding fate_told hole_told contour_fates is_polygon_by rings_in
-    fate-of h =
+    fate_of h =
         let fates = fates-at (contour_classes (rings_in ps directory rings)) (rings_in ps directory rings) (rings_in ps directory rings) i (rw rings-counted h) in
         rw (fates, ring_of h) (told-by (rings_in ps directory rings) (ring_at ps directory i) (positive (area (ring_at ps directory i))) _)
 
@@ -191,11 +190,11 @@ module _ (ps directory : List ℕ) where
 
         by : (a b : Bool) → ltb i rings ≡ b → Shows (cond a (Err BadRingSet) (cond b (Ok (fate_told (rings_in ps directory rings) i)) (Err NotThere)))
         by true b e = tt
-        by false true e = let h = ltb-true i rings e in rw (fate-of h) (polygon-or-not h (is_polygon_by ps directory i))
+        by false true e = let h = ltb-true i rings e in rw (fate_of h) (polygon-or-not h (is_polygon_by ps directory i))
         by false false e = tt
 
-    pub fate-found : {answer : Result RingFate Refusal} → answer ≡ fate_answer ps directory rings i → FateFound ps directory rings i answer
-    fate-found {answer} e = record {
+    pub fate_found : {answer : Result RingFate Refusal} → answer ≡ fate_answer ps directory rings i → FateFound ps directory rings i answer
+    fate_found {answer} e = record {
       answers = e;
       of-hole = λ k d f. subst Shows (sym e ∙ f) shows;
       of-dropped = λ f. subst Shows (sym e ∙ f) shows;

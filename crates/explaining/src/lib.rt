@@ -1,12 +1,13 @@
 // Why a ring is what it is: its fate by the points of a ring set, what one ring of the set answers for another, and what smoothing does to a vertex. Nothing is
 // asked of the caller, no table is lent but the set itself, and nothing changes.
+// Kept: the parameters of the three public calls one by one, as the calls of `contour` have them.
 #![tactic(auto)]
 
-ghost use Rattle.std.specs.Prelude.{◌≡◌, cond, false, ◌<◌};
+ghost use Rattle.std.specs.Prelude.{◌≡◌, ◌<◌};
 ghost use Rattle.scope.specs.Containment.{not_outside};
-ghost use Rattle.scope.specs.GeoJson.{count_at, ring_at, ring_set_refused};
+ghost use Rattle.scope.specs.GeoJson.{first_at, count_at, ring_at};
 ghost use Rattle.deciding.specs.Decisions.{decision_of, answer_in};
-ghost use Rattle.explaining.specs.Fates.{rings_in, RingOf, hole_told, is_polygon_by, FateFound, polygon_answer};
+ghost use Rattle.explaining.specs.Fates.{rings_in, hole_told, is_polygon_by, FateFound, polygon_answer};
 ghost use Rattle.explaining.specs.Vertices.{in_grid, midway, vertex_of_ring, vertex_told, vertex_answer};
 
 use cells::Point;
@@ -15,7 +16,7 @@ use error::Refusal;
 use extents::Span;
 use grid::grid_fit;
 use noting::area_at;
-use ringset::{record_at, ring_set_faulty};
+use ringset::{RingSet, record_at};
 use scope::Level;
 use smoothing::{VertexMoves, vertex_moves};
 
@@ -30,49 +31,39 @@ pub enum RingFate {
     Dropped,
 }
 
-// Number 9 where the ring set is faulty.
-fn checked(points: &[u16], directory: &[u32], rings: u32) -> Result<(), Refusal>
-    ensures { result ≡ cond (ring_set_refused points.now directory.now rings) (Err Refusal.BadRingSet) (Ok tt) }
+// Where the points of ring `k` of a checked set stand among the points.
+fn span_at(set: RingSet, k: u32) -> Span
+    ensures { (result.first ≡ first_at set.entry.directory.now k) × (result.count ≡ count_at set.entry.directory.now k) }
 {
-    if ring_set_faulty(points, directory, rings) {
-        return Err(Refusal::BadRingSet);
+    let ring = record_at(set.directory, k);
+    Span {
+        first: ring.first as usize,
+        count: ring.count as usize,
     }
-    Ok(())
 }
 
 // Whether a ring of a checked set is a polygon by its points.
-fn polygon_at(points: &[u16], directory: &[u32], rings: u32, k: u32) -> bool
-    requires { RingOf points.now directory.now rings k }
-    ensures { result ≡ is_polygon_by points.now directory.now k }
+fn polygon_at(set: RingSet, k: u32) -> bool
+    requires { k < set.rings }
+    ensures { result ≡ is_polygon_by set.entry.points.now set.entry.directory.now k }
 {
-    let ring = record_at(directory, k);
-    let span = Span {
-        first: ring.first as usize,
-        count: ring.count as usize,
-    };
-    let area = area_at(points, span);
+    let span = span_at(set, k);
+    let area = area_at(set.points, span);
     0 < area
 }
 
 // What ring `outer` of a checked set answers for ring `k`.
-fn decision_at(points: &[u16], directory: &[u32], rings: u32, outer: u32, k: u32) -> Decision
-    requires { RingOf points.now directory.now rings outer × RingOf points.now directory.now rings k }
-    ensures { result ≡ decision_of (ring_at points.now directory.now outer) (ring_at points.now directory.now k) }
+fn decision_at(set: RingSet, outer: u32, k: u32) -> Decision
+    requires { (outer < set.rings) × (k < set.rings) }
+    ensures { result ≡ decision_of (ring_at set.entry.points.now set.entry.directory.now outer) (ring_at set.entry.points.now set.entry.directory.now k) }
 {
-    let about = record_at(directory, outer);
-    let ring = record_at(directory, k);
-    let outer_span = Span {
-        first: about.first as usize,
-        count: about.count as usize,
-    };
-    let span = Span {
-        first: ring.first as usize,
-        count: ring.count as usize,
-    };
-    decide(points, outer_span, span)
+    let outer_span = span_at(set, outer);
+    let span = span_at(set, k);
+    decide(set.points, outer_span, span)
 }
 
 // Whether the answer is not -1.
+#[tactic(auto, unfolding(scope::specs::Containment::not_outside, deciding::specs::Decisions::answer_in))]
 fn holds(answer: Decision) -> bool
     ensures { result ≡ not_outside (answer_in answer) }
 {
@@ -84,20 +75,17 @@ fn holds(answer: Decision) -> bool
 }
 
 // The fate of a ring of a checked set that is no polygon: the first polygon whose answer is not -1 is its owner.
-fn hole_told(points: &[u16], directory: &[u32], rings: u32, ring: u32) -> RingFate
-    requires { RingOf points.now directory.now rings ring }
-    ensures { result ≡ hole_told (rings_in points.now directory.now rings) (ring_at points.now directory.now ring) }
+fn hole_told(set: RingSet, ring: u32) -> RingFate
+    requires { ring < set.rings }
+    ensures { result ≡ hole_told (rings_in set.entry.points.now set.entry.directory.now set.entry.rings) (ring_at set.entry.points.now set.entry.directory.now ring) }
 {
-    let mut k: u32 = 0;
-    while k < rings {
-        let outer = k;
-        k += 1;
-        if !polygon_at(points, directory, rings, outer) {
+    for k in 0..set.rings {
+        if !polygon_at(set, k) {
             continue;
         }
-        let answer = decision_at(points, directory, rings, outer, ring);
+        let answer = decision_at(set, k, ring);
         if holds(answer) {
-            return RingFate::Hole(outer, answer);
+            return RingFate::Hole(k, answer);
         }
     }
     RingFate::Dropped
@@ -105,6 +93,7 @@ fn hole_told(points: &[u16], directory: &[u32], rings: u32, ring: u32) -> RingFa
 
 // What becomes of a ring of a contour, by the points of the ring set and not by the words of its records: what `contours` would have written for these rings. Number 9
 // where the ring set is faulty, and 15 where there is no ring of this number.
+#[tactic(auto, using(crate::proofs::Owners::fate_found, crate::proofs::Owners::fate_of), unfolding(crate::specs::Fates::fate_answer))]
 pub fn ring_fate(
     points: &[u16],
     directory: &[u32],
@@ -113,18 +102,19 @@ pub fn ring_fate(
 ) -> Result<RingFate, Refusal>
     ensures { FateFound points.now directory.now rings ring result }
 {
-    checked(points, directory, rings)?;
+    let contour = RingSet::check(points, directory, rings)?;
     if rings <= ring {
         return Err(Refusal::NotThere);
     }
-    if polygon_at(points, directory, rings, ring) {
+    if polygon_at(contour, ring) {
         return Ok(RingFate::Polygon);
     }
-    Ok(hole_told(points, directory, rings, ring))
+    Ok(hole_told(contour, ring))
 }
 
 // What one ring of a ring set, called the polygon whatever its class, answers for another, with the vertex that decides: what the vertices of the other ring come to.
 // Number 9 where the ring set is faulty, and 15 where there is no ring of such a number.
+#[tactic(auto, unfolding(crate::specs::Fates::polygon_answer))]
 pub fn polygon_answer(
     points: &[u16],
     directory: &[u32],
@@ -134,17 +124,18 @@ pub fn polygon_answer(
 ) -> Result<Decision, Refusal>
     ensures { result ≡ polygon_answer points.now directory.now rings polygon ring }
 {
-    checked(points, directory, rings)?;
+    let set = RingSet::check(points, directory, rings)?;
     if rings <= polygon {
         return Err(Refusal::NotThere);
     }
     if rings <= ring {
         return Err(Refusal::NotThere);
     }
-    Ok(decision_at(points, directory, rings, polygon, ring))
+    Ok(decision_at(set, polygon, ring))
 }
 
 // Whether the sample in a column and a row, both counted from one outside, is in the grid.
+#[tactic(auto, unfolding(crate::specs::Vertices::in_grid))]
 fn in_grid(dx: u32, dy: u32, column: u32, row: u32) -> bool
     ensures { result ≡ in_grid dx dy column row }
 {
@@ -152,6 +143,7 @@ fn in_grid(dx: u32, dy: u32, column: u32, row: u32) -> bool
 }
 
 // Whether a point of doubled coordinates stands midway between two neighbouring samples of which at least one is in the grid.
+#[tactic(auto, unfolding(crate::specs::Vertices::midway, crate::specs::Vertices::midway_in_row, crate::specs::Vertices::midway_in_column))]
 fn midway(dx: u32, dy: u32, point: Point) -> bool
     ensures { result ≡ midway dx dy (record { x = point.x; y = point.y }) }
 {
@@ -163,49 +155,40 @@ fn midway(dx: u32, dy: u32, point: Point) -> bool
     in_row | in_column
 }
 
-// A coordinate as a wider number.
-fn wide(coordinate: u16) -> u32
-    ensures { result ≡ coordinate }
-{
-    coordinate as u32
-}
-
 // A vertex of a ring of a checked set.
-fn vertex_at(points: &[u16], directory: &[u32], rings: u32, ring: u32, vertex: u32) -> Point
-    requires { RingOf points.now directory.now rings ring × (vertex < count_at directory.now ring) }
-    ensures { record { x = result.x; y = result.y } ≡ vertex_of_ring points.now directory.now ring vertex }
+fn vertex_at(set: RingSet, ring: u32, vertex: u32) -> Point
+    requires { (ring < set.rings) × (vertex < count_at set.directory.now ring) }
+    ensures { record { x = result.x; y = result.y } ≡ vertex_of_ring set.entry.points.now set.entry.directory.now ring vertex }
 {
-    let record = record_at(directory, ring);
+    let record = record_at(set.directory, ring);
     let at = 2 * (record.first as usize + vertex as usize);
     Point {
-        x: wide(points[at]),
-        y: wide(points[at + 1]),
+        x: u32::from(set.points[at]),
+        y: u32::from(set.points[at + 1]),
     }
 }
 
 // What smoothing does to a vertex of a checked set, or number 15.
+#[tactic(auto, unfolding(crate::specs::Vertices::vertex_told, crate::specs::Vertices::vertex_there))]
 fn vertex_told(
     values: &[f64],
     level: Level,
     dx: u32,
     dy: u32,
-    points: &[u16],
-    directory: &[u32],
-    rings: u32,
+    set: RingSet,
     ring: u32,
     vertex: u32,
 ) -> Result<VertexMoves, Refusal>
-    requires { ring_set_refused points.now directory.now rings ≡ false }
-    ensures { result ≡ vertex_told values.now level.threshold dx dy points.now directory.now rings ring vertex }
+    ensures { result ≡ vertex_told values.now level.threshold dx dy set.entry.points.now set.entry.directory.now set.entry.rings ring vertex }
 {
-    if rings <= ring {
+    if set.rings <= ring {
         return Err(Refusal::NotThere);
     }
-    let record = record_at(directory, ring);
+    let record = record_at(set.directory, ring);
     if record.count <= vertex {
         return Err(Refusal::NotThere);
     }
-    let point = vertex_at(points, directory, rings, ring, vertex);
+    let point = vertex_at(set, ring, vertex);
     if !midway(dx, dy, point) {
         return Err(Refusal::NotThere);
     }
@@ -214,6 +197,7 @@ fn vertex_told(
 
 // What smoothing does to each coordinate of a vertex of a ring of a ring set, at a level of a grid. Numbers 1 and 2 where the grid does not fit, 9 where the ring set is
 // faulty, and 15 where there is no such vertex midway between two samples.
+#[tactic(auto, unfolding(crate::specs::Vertices::vertex_answer, crate::specs::Vertices::on_grid))]
 pub fn smoothed_vertex(
     values: &[f64],
     level: Level,
@@ -228,8 +212,6 @@ pub fn smoothed_vertex(
     ensures { result ≡ vertex_answer values.now level.threshold dx dy points.now directory.now rings ring vertex }
 {
     grid_fit(values.len(), dx, dy)?;
-    checked(points, directory, rings)?;
-    vertex_told(
-        values, level, dx as u32, dy as u32, points, directory, rings, ring, vertex,
-    )
+    let ring_set = RingSet::check(points, directory, rings)?;
+    vertex_told(values, level, dx as u32, dy as u32, ring_set, ring, vertex)
 }

@@ -27,6 +27,7 @@ pub struct Extent {
 }
 
 // Where the extents of a ladder stand in its table, two words each, and how many: of the items, of every 64 items, and of every 64 of these.
+// Kept: places in a lent table and no slices, since the table is written while a ladder in it is raised.
 #[derive(Clone, Copy)]
 pub struct Ladder {
     pub items: usize,

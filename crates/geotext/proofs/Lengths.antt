@@ -6,19 +6,16 @@ use Prim.Native.Nat.{ℕ, zero, suc, ◌+◌, ◌-◌, ◌*◌, ◌/◌, ◌%◌
 use native.Mathlib.Decide.{dec_lt}
 use native.Mathlib.Omega.{arith}
 use lib.Dec.{ltb, eqb}
-use lib.ListN.{length, get_or, take, drop, length-append, get_or-eq_default}
-use lib.Seq.{get_or-take, get_or-drop}
+use lib.ListN.{length, get_or, length-append}
 use mir.Syntax.{w16}
 use mir.Val.{Fits}
 use Rattle.std.specs.List.{sum_by}
-use Rattle.std.proofs.lemmas.List.{length-take}
 use Rattle.std.proofs.lemmas.List.Sums.{sum_by-cons}
-use Rattle.laws.proofs.Words.{words-in-length}
 use borrow.Author.Tests.{ltb-false, eqb-true, eqb-false}
 use Rattle.scope.specs.Limits.{coordinate_limit}
 use Rattle.scope.specs.Stitching.{Line}
 use Rattle.scope.specs.Area.{points, any_above}
-use Rattle.scope.specs.GeoJson.{words_in, decimal, coordinate_text, joined, bracketed, point_text, ring_text, written_order}
+use Rattle.scope.specs.GeoJson.{decimal, coordinate_text, joined, bracketed, point_text, ring_text, written_order}
 use Rattle.laws.proofs.Tests.{neither}
 use Rattle.laws.proofs.Total.{total, total-append}
 use Rattle.geotext.specs.Pieces.{digit_text}
@@ -99,9 +96,10 @@ points-length (x ∷ []) n h = absurd (omega arith)
 points-length (x ∷ y ∷ ws) zero h = absurd (omega arith)
 points-length (x ∷ y ∷ ws) (suc n) h = omega (arith, point-length x y, points-length ws n (omega arith))
 
-pub empty-ring-length : (ps : List ℕ) (first : ℕ) → length (ring_text (points (words_in ps first 0))) ≡ 2
-unfolding words_in ring_text points bracketed joined
-empty-ring-length ps first = refl
+pub empty-ring-length : (ws : List ℕ) → length ws ≡ 0 → length (ring_text (points ws)) ≡ 2
+unfolding ring_text points bracketed joined
+empty-ring-length [] h = refl
+empty-ring-length (w ∷ ws) h = absurd (omega arith)
 
 pub ring-length : (ws : List ℕ) (n : ℕ) → length ws ≡ 2 * n → 0 < n → length (ring_text (points ws)) ≡ total letters ws + 4 * n + 1
 unfolding points total ring_text
@@ -119,22 +117,12 @@ unfolding total
 total-by [] = refl
 total-by (w ∷ ws) = rw (sum_by-cons letters w ws, total-by ws)
 
-each-short : (ws : List ℕ) → ((i : ℕ) → get_or ws i 0 < 2 ^ 16) → sum_by letters ws ≤ 7 * length ws
-each-short [] fits = omega arith
-each-short (w ∷ ws) fits = omega (arith, sum_by-cons letters w ws, coordinate-short w (fits 0), each-short ws (λ i. fits (suc i)))
+pub letters-short : (ws : List ℕ) → ((i : ℕ) → Fits w16 (get_or ws i 0)) → sum_by letters ws ≤ 7 * length ws
+letters-short [] fits = omega arith
+letters-short (w ∷ ws) fits = omega (arith, sum_by-cons letters w ws, coordinate-short w (fits 0).fits, letters-short ws (λ i. fits (suc i)))
 
-module _ (ps : List ℕ) (first count : ℕ) where
-  pub letters-short : ((i : ℕ) → Fits w16 (get_or ps i 0)) → sum_by letters (words_in ps first count) ≤ 7 * length (words_in ps first count)
-  unfolding words_in
-  letters-short fits = each-short (words_in ps first count) (λ i. by i (dec_lt i (2 * count)))
-    where
-      by : (i : ℕ) → Dec (i < 2 * count) → get_or (words_in ps first count) i 0 < 2 ^ 16
-      by i (yes h) = rw (get_or-take (2 * count) (drop (2 * first) ps) i 0 h ∙ get_or-drop (2 * first) ps i 0) (fits (2 * first + i)).fits
-      by i (no h) = rw (get_or-eq_default (words_in ps first count) 0 (let few : length (take (2 * count) (drop (2 * first) ps)) ≤ i = omega (arith, h, length-take (2 * count) (drop (2 * first) ps)) in few)) (omega arith)
-
-  pub ring_by_letters : 2 * (first + count) ≤ length ps → 0 < count → length (ring_text (points (words_in ps first count))) ≡ sum_by letters (words_in ps first count) + 4 * count + 1
-  ring_by_letters enough more =
-      ring-length (words_in ps first count) count (words-in-length ps first count enough) more ∙ rw (total-by (words_in ps first count))
+pub ring_by_letters : (ws : List ℕ) → length ws % 2 ≡ 0 → 0 < length ws → length (ring_text (points ws)) ≡ sum_by letters ws + 2 * length ws + 1
+ring_by_letters ws even more = omega (arith, ring-length ws (length ws / 2) (omega arith) (omega arith), total-by ws)
 
 -- ---- a ring's text is as long backwards
 

@@ -3,16 +3,15 @@
 use mathlib.Core.Path.{◌≡◌, refl, sym, ap, ap₂, ◌∙◌}
 use mathlib.Core.Bool.{Bool, true, false, cond}
 use mathlib.Core.List.{List, [], ◌∷◌, ◌++◌, append_assoc, append-nil, reverse, reverse-cons}
-use Prim.Native.Nat.{ℕ, zero, suc, ◌+◌, ◌-◌, ◌*◌, ◌≤◌, ◌<◌}
+use Prim.Native.Nat.{ℕ, zero, suc, ◌+◌, ◌-◌, ◌*◌, ◌/◌, ◌≤◌, ◌<◌}
 use native.Mathlib.Decide.{dec_lt}
 use native.Mathlib.Omega.{arith}
 use lib.ListN.{length, get_or, set, drop, length-reverse, drop_of_length-le, get_or-append}
-use lib.Seq.{sets, drop-cons, get_or-append_seam, get_or-take, get_or-drop}
+use lib.Seq.{sets, drop-cons, get_or-append_seam}
 use Rattle.scope.specs.Cells.{Point}
 use Rattle.scope.specs.Stitching.{Line}
 use Rattle.scope.specs.Area.{points}
-use Rattle.scope.specs.GeoJson.{words_in, coordinate_text, joined, bracketed, point_text, ring_text, written_order}
-use Rattle.laws.proofs.Words.{words-in-length}
+use Rattle.scope.specs.GeoJson.{coordinate_text, joined, bracketed, point_text, ring_text, written_order}
 use Rattle.geotext.specs.Pieces.{point_texts, next_of}
 use Rattle.geotext.proofs.Runs.{Left, left-begin, left-room, left-next}
 
@@ -46,12 +45,11 @@ point_in ps k = record { x = get_or ps (2 * k) 0; y = get_or ps (2 * k + 1) 0 }
 nowhere : Point
 nowhere = record { x = 0; y = 0 }
 
-points-many : (ws : List ℕ) (n : ℕ) → length ws ≡ 2 * n → length (points ws) ≡ n
+points-many : (ws : List ℕ) → length (points ws) ≡ length ws / 2
 unfolding points
-points-many [] n h = omega arith
-points-many (x ∷ []) n h = absurd (omega arith)
-points-many (x ∷ y ∷ ws) zero h = absurd (omega arith)
-points-many (x ∷ y ∷ ws) (suc n) h = ap suc (points-many ws n (omega arith))
+points-many [] = refl
+points-many (x ∷ []) = omega arith
+points-many (x ∷ y ∷ ws) = omega (arith, points-many ws)
 
 point-of : (ws : List ℕ) (k : ℕ) → 2 * k + 1 < length ws → get_or (points ws) k nowhere ≡ point_in ws k
 unfolding points
@@ -81,53 +79,40 @@ get_d_reverse (a ∷ l) k d h = rw (reverse-cons a l) (by (dec_lt k (length l)) 
 
 -- ---- the walk that writes
 
-module _ (ps : List ℕ) (first count : ℕ) (back : Bool) where
-  -- the ring as it is stored, and as it is written
-  abbrev stored : Line
-  stored = points (words_in ps first count)
+module _ (ws : List ℕ) (back : Bool) where
+  -- how many points the words have
+  abbrev count : ℕ
+  count = length ws / 2
 
+  -- the ring as it is written
   abbrev ring : Line
-  ring = written_order back stored
+  ring = written_order back (points ws)
 
-  module _ (enough : 2 * (first + count) ≤ length ps) where
-    stored-many : length stored ≡ count
-    stored-many = points-many (words_in ps first count) count (words-in-length ps first count enough)
+  ring-many : length ring ≡ count
+  unfolding written_order
+  ring-many = by back
+    where
+      by : (b : Bool) → length (cond b (reverse (points ws)) (points ws)) ≡ count
+      by true = length-reverse (points ws) ∙ points-many ws
+      by false = points-many ws
 
-    ring-many : length ring ≡ count
-    unfolding written_order
-    ring-many = by back
-      where
-        by : (b : Bool) → length (cond b (reverse stored) stored) ≡ count
-        by true = length-reverse stored ∙ stored-many
-        by false = stored-many
+  written-point : (left : ℕ) → 0 < left → left ≤ count → get_or ring (count - left) nowhere ≡ point_in ws (next_of count left back)
+  unfolding written_order next_of
+  written-point left more within = by back
+    where
+      by : (b : Bool) → get_or (cond b (reverse (points ws)) (points ws)) (count - left) nowhere ≡ point_in ws (cond b (left - 1) (count - left))
+      by true =
+          let place : length (points ws) - 1 - (count - left) ≡ left - 1 = omega (arith, points-many ws) in
+          get_d_reverse (points ws) (count - left) nowhere (omega (arith, points-many ws)) ∙ rw place (point-of ws (left - 1) (omega arith))
+      by false = point-of ws (count - left) (omega arith)
 
-    stored-point : (k : ℕ) → k < count → get_or stored k nowhere ≡ point_in ps (first + k)
-    unfolding words_in
-    stored-point k h = point-of (words_in ps first count) k (omega (arith, words-in-length ps first count enough)) ∙ words
-      where
-        word : (i j : ℕ) → i < 2 * count → 2 * first + i ≡ j → get_or (words_in ps first count) i 0 ≡ get_or ps j 0
-        word i j less e = get_or-take (2 * count) (drop (2 * first) ps) i 0 less ∙ get_or-drop (2 * first) ps i 0 ∙ ap (λ (n : ℕ). get_or ps n 0) e
+  ring-next : (left n : ℕ) → 0 < left → left ≤ count → n ≡ next_of count left back → drop (count - left) ring ≡ point_in ws n ∷ drop (count - (left - 1)) ring
+  ring-next left n more within is =
+      let next : suc (count - left) ≡ count - (left - 1) = omega arith in
+      drop-cons ring (count - left) nowhere (omega (arith, ring-many)) ∙ rw (next, is, written-point left more within)
 
-        words : point_in (words_in ps first count) k ≡ point_in ps (first + k)
-        words = rw (word (2 * k) (2 * (first + k)) (omega arith) (omega arith), word (2 * k + 1) (2 * (first + k) + 1) (omega arith) (omega arith))
-
-    written-point : (left : ℕ) → 0 < left → left ≤ count → get_or ring (count - left) nowhere ≡ point_in ps (first + next_of count left back)
-    unfolding written_order next_of
-    written-point left more within = by back
-      where
-        by : (b : Bool) → get_or (cond b (reverse stored) stored) (count - left) nowhere ≡ point_in ps (first + cond b (left - 1) (count - left))
-        by true =
-            let place : length stored - 1 - (count - left) ≡ left - 1 = omega (arith, stored-many) in
-            get_d_reverse stored (count - left) nowhere (omega (arith, stored-many)) ∙ rw place (stored-point (left - 1) (omega arith))
-        by false = stored-point (count - left) (omega arith)
-
-    ring-next : (left n : ℕ) → 0 < left → left ≤ count → n ≡ next_of count left back → drop (count - left) ring ≡ point_in ps (first + n) ∷ drop (count - (left - 1)) ring
-    ring-next left n more within is =
-        let next : suc (count - left) ≡ count - (left - 1) = omega arith in
-        drop-cons ring (count - left) nowhere (omega (arith, ring-many)) ∙ rw (next, is, written-point left more within)
-
-    none_left : (left : ℕ) → left ≤ 0 → drop (count - left) ring ≡ []
-    none_left left h = drop_of_length-le ring {i = count - left} (omega (arith, ring-many))
+  none_left : (left : ℕ) → left ≤ 0 → drop (count - left) ring ≡ []
+  none_left left h = drop_of_length-le ring {i = count - left} (omega (arith, ring-many))
 
   -- so many points are left
   pub record PointsLeft (start : List ℕ) (at : ℕ) (text : List ℕ) (place left : ℕ) : Type 0 where
@@ -140,48 +125,47 @@ unfolding next_of
 next-within count left true more within = omega arith
 next-within count left false more within = omega arith
 
-module _ {ps : List ℕ} {first count : ℕ} {back : Bool} {start : List ℕ} {at : ℕ} where
-  pub points-begin : at + length (point_texts (ring ps first count back)) ≤ length start → PointsLeft ps first count back start at start at count
-  points-begin room = let none : count - count ≡ 0 = omega arith in record { within = omega arith; unwritten = rw none (left-begin refl room) }
+module _ {ws : List ℕ} {back : Bool} {start : List ℕ} {at : ℕ} where
+  pub points-begin : at + length (point_texts (ring ws back)) ≤ length start → PointsLeft ws back start at start at (length ws / 2)
+  points-begin room = let none : length ws / 2 - length ws / 2 ≡ 0 = omega arith in record { within = omega arith; unwritten = rw none (left-begin refl room) }
 
-  module _ (enough : 2 * (first + count) ≤ length ps) where
-    pub points-end : {text : List ℕ} {place left : ℕ} → PointsLeft ps first count back start at text place left → left ≤ 0 →
-        Left start at (point_texts (ring ps first count back)) text place []
-    unfolding point_texts joined
-    points-end {text} {place} {left} s h = rw (none_left ps first count back enough left h) at s.unwritten
+  pub points-end : {text : List ℕ} {place left : ℕ} → PointsLeft ws back start at text place left → left ≤ 0 →
+      Left start at (point_texts (ring ws back)) text place []
+  unfolding point_texts joined
+  points-end {text} {place} {left} s h = rw (none_left ws back left h) at s.unwritten
 
-    module _ {text : List ℕ} {place left : ℕ} (s : PointsLeft ps first count back start at text place left) (more : 0 < left) {n : ℕ} (is : n ≡ next_of count left back) where
-      abbrev next : Point
-      next = point_in ps (first + n)
+  module _ {text : List ℕ} {place left : ℕ} (s : PointsLeft ws back start at text place left) (more : 0 < left) {n : ℕ} (is : n ≡ next_of (length ws / 2) left back) where
+    abbrev next : Point
+    next = point_in ws n
 
-      -- the points behind the next
-      abbrev others : Line
-      others = drop (count - (left - 1)) (ring ps first count back)
+    -- the points behind the next
+    abbrev others : Line
+    others = drop (length ws / 2 - (left - 1)) (ring ws back)
 
-      points-at : Left start at (point_texts (ring ps first count back)) text place (point_text next ++ behind_point others)
-      points-at = rw (ring-next ps first count back enough left n more s.within is, one-point) at s.unwritten
+    points-at : Left start at (point_texts (ring ws back)) text place (point_text next ++ behind_point others)
+    points-at = rw (ring-next ws back left n more s.within is, one-point) at s.unwritten
 
-      -- there is room for a point
-      pub point-room : place + length (point_text next) ≤ length text
-      point-room = left-room (point_text next) (behind_point others) points-at
+    -- there is room for a point
+    pub point-room : place + length (point_text next) ≤ length text
+    point-room = left-room (point_text next) (behind_point others) points-at
 
-      module _ {text' : List ℕ} {place' : ℕ} (ends : place' ≡ place + length (point_text next)) (stored : text' ≡ sets text place (point_text next)) where
-        points-behind : Left start at (point_texts (ring ps first count back)) text' place' (behind_point others)
-        points-behind = left-next (point_text next) (behind_point others) points-at ends stored
+    module _ {text' : List ℕ} {place' : ℕ} (ends : place' ≡ place + length (point_text next)) (stored : text' ≡ sets text place (point_text next)) where
+      points-behind : Left start at (point_texts (ring ws back)) text' place' (behind_point others)
+      points-behind = left-next (point_text next) (behind_point others) points-at ends stored
 
-        -- another follows
-        pub points-comma : 0 < left - 1 → Left start at (point_texts (ring ps first count back)) text' place' (44 ∷ point_texts others)
-        unfolding behind_point
-        points-comma again =
-            let follows = ring-next ps first count back enough (left - 1) _ again (omega (arith, s.within)) refl in
-            rw follows (rw follows at points-behind)
+      -- another follows
+      pub points-comma : 0 < left - 1 → Left start at (point_texts (ring ws back)) text' place' (44 ∷ point_texts others)
+      unfolding behind_point
+      points-comma again =
+          let follows = ring-next ws back (left - 1) _ again (omega (arith, s.within)) refl in
+          rw follows (rw follows at points-behind)
 
-        pub points-next : 0 < left - 1 → PointsLeft ps first count back start at (set text' place' 44) (place' + 1) (left - 1)
-        points-next again = record { within = omega (arith, s.within); unwritten = left-next (44 ∷ []) (point_texts others) (points-comma again) refl refl }
+      pub points-next : 0 < left - 1 → PointsLeft ws back start at (set text' place' 44) (place' + 1) (left - 1)
+      points-next again = record { within = omega (arith, s.within); unwritten = left-next (44 ∷ []) (point_texts others) (points-comma again) refl refl }
 
-        -- it was the last
-        pub points-last : left - 1 ≤ 0 → PointsLeft ps first count back start at text' place' (left - 1)
-        unfolding behind_point point_texts joined
-        points-last last =
-            let none = none_left ps first count back enough (left - 1) last in
-            record { within = omega (arith, s.within); unwritten = rw none (rw none at points-behind) }
+      -- it was the last
+      pub points-last : left - 1 ≤ 0 → PointsLeft ws back start at text' place' (left - 1)
+      unfolding behind_point point_texts joined
+      points-last last =
+          let none = none_left ws back (left - 1) last in
+          record { within = omega (arith, s.within); unwritten = rw none (rw none at points-behind) }

@@ -1,11 +1,11 @@
 // The text of a coordinate, a point and a ring as bytes, how long each is, and how long the text of a checked ring set is.
 #![tactic(auto)]
 
-ghost use Rattle.std.specs.Prelude.{◌≡◌, ◌+◌, ◌-◌, ◌*◌, ◌^◌, ◌≤◌, ◌<◌, length, false, [], ◌∷◌};
+ghost use Rattle.std.specs.Prelude.{◌≡◌, ◌+◌, ◌-◌, ◌*◌, ◌^◌, ◌%◌, ◌≤◌, ◌<◌, length, false, [], ◌∷◌};
 ghost use Rattle.std.proofs.lemmas.List.Edits.{sets};
 ghost use Rattle.scope.specs.Limits.{point_limit};
 ghost use Rattle.scope.specs.Area as Area;
-ghost use Rattle.scope.specs.GeoJson.{words_in, decimal, coordinate_text, point_text, ring_text, written_order, geo_json_text};
+ghost use Rattle.scope.specs.GeoJson.{decimal, coordinate_text, point_text, ring_text, written_order, geo_json_text};
 ghost use Rattle.ringset.specs.OneRecord.{shape_refused};
 ghost use Rattle.geotext.specs.Pieces.{digit_text, point_texts, next_of};
 ghost use Rattle.geotext.specs.Shares.{record_share};
@@ -106,24 +106,22 @@ fn put_point(text: &mut [u8], at: usize, x: u16, y: u16) -> usize
     end + 1
 }
 
-// The number of bytes of a ring's text: the ring of `count` points from the point of number `first` on.
-fn ring_length(points: &[u16], first: u32, count: u32) -> u64
-    requires count_in_bounds { 2 * (first + count) ≤ length points.now }
-    requires count_le_point_limit { count ≤ point_limit }
-    ensures { result ≡ length (ring_text (Area.points (words_in points.now first count))) }
+// The number of bytes of a ring's text, from the ring's words.
+fn ring_length(ring: &[u16]) -> u64
+    requires even { length ring.now % 2 ≡ 0 }
+    requires few { length ring.now ≤ 2 * point_limit }
+    ensures { result ≡ length (ring_text (Area.points ring.now)) }
 {
-    if count == 0 {
+    if ring.is_empty() {
         return 2;
     }
-    let start = 2 * (first as usize);
-    let ring = &points[start..start + 2 * (count as usize)];
     let letters: u64 = ring.iter().map(|word| coordinate_length(*word)).sum();
-    letters + 4 * u64::from(count) + 1
+    letters + 2 * (ring.len() as u64) + 1
 }
 
 // Which of a ring's points is the next, from 0, where so many of `count` are left to be written: backwards, or as stored.
 #[tactic(auto, unfolding(crate::specs::Pieces::next_of))]
-fn next_of(count: u32, left: u32, back: bool) -> u32
+fn next_of(count: usize, left: usize, back: bool) -> usize
     requires left_nonzero { 0 < left }
     requires left_le_count { left ≤ count }
     ensures { result ≡ next_of count left back }
@@ -131,25 +129,18 @@ fn next_of(count: u32, left: u32, back: bool) -> u32
     if back { left - 1 } else { count - left }
 }
 
-// Writes the texts of `count` points, those from the point of number `first` on, with commas between them, backwards or as stored, from byte `at` on, and
-// answers the number of the byte behind them.
-fn put_points(
-    points: &[u16],
-    first: u32,
-    count: u32,
-    back: bool,
-    text: &mut [u8],
-    at: usize,
-) -> usize
-    requires count_in_bounds { 2 * (first + count) ≤ length points.now }
-    requires count_in_bounds_2 { at + length (point_texts (written_order back (Area.points (words_in points.now first count)))) ≤ length text.old }
-    ensures value { result ≡ at + length (point_texts (written_order back (Area.points (words_in points.now first count)))) }
-    ensures text_after { text.new ≡ sets text.old at (point_texts (written_order back (Area.points (words_in points.now first count)))) }
+// Writes the texts of a ring's points from its words, with commas between them, backwards or as stored, from byte `at` on, and answers the number of the byte
+// behind them.
+fn put_points(ring: &[u16], back: bool, text: &mut [u8], at: usize) -> usize
+    requires { at + length (point_texts (written_order back (Area.points ring.now))) ≤ length text.old }
+    ensures value { result ≡ at + length (point_texts (written_order back (Area.points ring.now))) }
+    ensures text_after { text.new ≡ sets text.old at (point_texts (written_order back (Area.points ring.now))) }
 {
+    let count = ring.len() / 2;
     let mut place = at;
     for left in (0..count).rev() {
-        let i = 2 * (first as usize + next_of(count, left + 1, back) as usize);
-        place = put_point(text, place, points[i], points[i + 1]);
+        let i = 2 * next_of(count, left + 1, back);
+        place = put_point(text, place, ring[i], ring[i + 1]);
         if 0 < left {
             text[place] = COMMA;
             place += 1;
@@ -158,22 +149,14 @@ fn put_points(
     place
 }
 
-// Writes a ring's text from byte `at` on, its points backwards or as stored, and answers the number of the byte behind it.
-pub fn put_ring(
-    points: &[u16],
-    first: u32,
-    count: u32,
-    back: bool,
-    text: &mut [u8],
-    at: usize,
-) -> usize
-    requires count_in_bounds { 2 * (first + count) ≤ length points.now }
-    requires count_in_bounds_2 { at + length (ring_text (written_order back (Area.points (words_in points.now first count)))) ≤ length text.old }
-    ensures value { result ≡ at + length (ring_text (written_order back (Area.points (words_in points.now first count)))) }
-    ensures text_after { text.new ≡ sets text.old at (ring_text (written_order back (Area.points (words_in points.now first count)))) }
+// Writes a ring's text from its words, from byte `at` on, its points backwards or as stored, and answers the number of the byte behind it.
+pub fn put_ring(ring: &[u16], back: bool, text: &mut [u8], at: usize) -> usize
+    requires { at + length (ring_text (written_order back (Area.points ring.now))) ≤ length text.old }
+    ensures value { result ≡ at + length (ring_text (written_order back (Area.points ring.now))) }
+    ensures text_after { text.new ≡ sets text.old at (ring_text (written_order back (Area.points ring.now))) }
 {
     text[at] = OPENING_BRACKET;
-    let end = put_points(points, first, count, back, text, at + 1);
+    let end = put_points(ring, back, text, at + 1);
     text[end] = CLOSING_BRACKET;
     end + 1
 }
@@ -183,13 +166,15 @@ fn share_of(points: &[u16], record: Record) -> u64
     requires { shape_refused points.now «record» ≡ false }
     ensures { result ≡ record_share points.now «record» }
 {
+    let start = 2 * (record.first as usize);
+    let ring = &points[start..start + 2 * (record.count as usize)];
     if record.class == POLYGON {
-        return ring_length(points, record.first, record.count) + 3;
+        return ring_length(ring) + 3;
     }
     if record.owner == NO_OWNER {
         return 0;
     }
-    ring_length(points, record.first, record.count) + 1
+    ring_length(ring) + 1
 }
 
 // The number of bytes of a text by the shares of its records: they come into the frame, and the last polygon has no comma.

@@ -19,12 +19,11 @@ use cells::{Stroke, stroke_at};
 use drawing::{Cell, cell_of, line_at, meets, point_at, word_at};
 use lent::put;
 use limits::RECORD_STRIDE;
-use lines::tables::{column_word, link_point, put_next, release, slot_at, word_of};
+use lines::tables::{column_word, link_point, next_link, put_next, release, slot_at};
 use lines::{Progress, append, join, prepend, start};
 use measuring::{area_of, put_area};
-use packing::{next_link, put_index, put_record};
+use packing::{put_index, put_record};
 use scan::ROW_WORDS;
-use sweep::row_word;
 use words::{Pane, SAMPLES, bit_at, changes_in, number_in, pane_of, set_bits};
 
 // How far the drawing has come: the open lines; of the links the first free one, how many were ever used and how many are held; and the rings given out
@@ -48,11 +47,11 @@ fn link_taken(p: Play) -> u32
 }
 
 // The stock without that link.
-#[tactic(auto, unfolding(crate::specs::Giving::stock_after))]
+#[tactic(auto, unfolding(crate::specs::Giving::stock_after, machine::specs::Machine::word_of))]
 fn stock_after(links: &[u32], p: Play) -> Play
     ensures { result ≡ stock_after links.now p }
 {
-    let held = word_of(p.held as u64 + 1);
+    let held = p.held.wrapping_add(1);
     if p.held < p.fresh {
         return Play {
             spare: next_link(links, p.spare),
@@ -61,7 +60,7 @@ fn stock_after(links: &[u32], p: Play) -> Play
         };
     }
     Play {
-        fresh: word_of(p.fresh as u64 + 1),
+        fresh: p.fresh.wrapping_add(1),
         held,
         ..p
     }
@@ -123,12 +122,13 @@ fn put_ring_record(points: &[u16], directory: &mut [u32], p: Play, size: u32)
 {
     let at = RECORD_STRIDE * (p.rings as usize);
     put_record(directory, at, p.points as u64, size as u64 + 2);
-    let count = word_of(size as u64 + 2);
+    let count = size.wrapping_add(2);
     let area = area_of(points, p.points, count);
     put_area(directory, at + 4, area);
 }
 
 // The counts after a ring of `size` links from link `first` on is given out, with that many open lines left.
+#[tactic(auto, unfolding(machine::specs::Machine::word_of))]
 fn after_ring(p: Play, count: u32, first: u32, size: u32) -> Play
     ensures { result
         ≡ record { count = count; spare = first; fresh = p.fresh; held = p.held - size; rings = word_of (p.rings + 1); points = word_of (p.points + size + 2) } }
@@ -137,8 +137,8 @@ fn after_ring(p: Play, count: u32, first: u32, size: u32) -> Play
         count,
         spare: first,
         held: p.held.saturating_sub(size),
-        rings: word_of(p.rings as u64 + 1),
-        points: word_of(p.points as u64 + size as u64 + 2),
+        rings: p.rings.wrapping_add(1),
+        points: p.points.wrapping_add(size).wrapping_add(2),
         ..p
     }
 }
@@ -176,7 +176,7 @@ fn give_ring(
 }
 
 // A stroke of a cell by the rule that its sides call for. One that closes a ring takes no link.
-// Kept: four tables beside each other, since the check does not know what tables in a struct of `&mut` hold once the struct is let go.
+// Kept: four tables beside each other, since a struct of `&mut` asks a clause a table more of each function, that it holds the same table.
 fn give_stroke(
     lines: &mut [u32],
     links: &mut [u32],
@@ -297,6 +297,8 @@ fn give_changes(
 }
 
 // Row `r` of cells, between two rows of samples of `dx` columns.
+// Kept: `try_row` of `trying` has this loop too; one walk for both needs a trait for the step, with a struct of each one's tables and laws, and is no plainer.
+#[tactic(auto, unfolding(scope::specs::Limits::side_limit))]
 pub fn give_row(
     upper: &[u64; ROW_WORDS],
     lower: &[u64; ROW_WORDS],
@@ -316,8 +318,8 @@ pub fn give_row(
     let mut upper_left = false;
     let mut lower_left = false;
     for w in 0..dx as usize / SAMPLES + 1 {
-        let upper_word = row_word(upper, w);
-        let lower_word = row_word(lower, w);
+        let upper_word = upper[w];
+        let lower_word = lower[w];
         let pane = pane_of(upper_word, lower_word, upper_left, lower_left);
         let changes = changes_in(pane);
         play = give_changes(

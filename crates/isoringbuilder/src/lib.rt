@@ -1,11 +1,11 @@
 // The rings of a grid at one level, over tables that the caller lends: the second report, which gives all room, and contour_rings, which gives every
 // ring or none. Neither asks anything of the caller: bad sides, lengths or room draw the lowest refusal that applies.
+// Kept: the parameters of `second_report` and `contour_rings` one by one, as the calls of `contour` have them.
 #![tactic(auto)]
 
-ghost use Rattle.std.specs.Prelude.{◌≡◌, ◌≤◌, length};
+ghost use Rattle.std.specs.Prelude.{◌≡◌, ◌≤◌};
 ghost use Rattle.scope.specs.Limits.{side_limit};
 ghost use Rattle.scope.specs.Room.{open_words, link_words, point_words, directory_words};
-ghost use Rattle.grid.specs.Grid.{grid_fit};
 ghost use Rattle.isoringbuilder.specs.Answers.{SecondReported, RingsBuilt};
 ghost use Rattle.isoringbuilder.specs.Verdict.{room_verdict};
 ghost use Rattle.isoringbuilder.specs.Pass.{packed, Passed, Packed, PackedWhole};
@@ -38,6 +38,7 @@ pub struct Drawing {
 }
 
 // The words that the open table needs for this peak: 4H + dx + 2.
+#[tactic(auto, unfolding(scope::specs::Limits::side_limit, scope::specs::Room::open_words))]
 pub fn open_words(dx: usize, peak: u32) -> usize
     requires { dx ≤ side_limit }
     ensures { result ≡ open_words dx peak }
@@ -46,6 +47,7 @@ pub fn open_words(dx: usize, peak: u32) -> usize
 }
 
 // The words that the link table needs for this many segments: 2S.
+#[tactic(auto, unfolding(scope::specs::Room::link_words))]
 pub fn link_words(segments: u32) -> usize
     ensures { result ≡ link_words segments }
 {
@@ -53,14 +55,15 @@ pub fn link_words(segments: u32) -> usize
 }
 
 // The words that the points need for this many segments and rings: 2(S + R).
+#[tactic(auto, unfolding(scope::specs::Room::point_words, scope::specs::Room::point_count))]
 pub fn point_words(segments: u32, rings: u32) -> usize
     ensures { result ≡ point_words segments rings }
 {
     2 * (segments as usize + rings as usize)
 }
 
-// The stitching pass over a grid that fits: both work tables are tested, and nothing is touched where one is short.
-fn pass_over(
+// The stitching pass over the lent work tables, where the grid and both tables fit; nothing is touched where they do not.
+pub fn run_pass(
     values: &[f64],
     level: Level,
     dx: usize,
@@ -68,11 +71,11 @@ fn pass_over(
     lines: &mut [u32],
     links: &mut [u32],
 ) -> Result<Drawing, Refusal>
-    requires { grid_fit (length values.now) dx dy ≡ Ok tt }
     ensures { Passed values.now level dx dy lines.old links.old result lines.new links.new }
 {
-    let mut marks = [0u8; TILES];
+    grid_fit(values.len(), dx, dy)?;
     let grid = Grid { values, dx, dy };
+    let mut marks = [0u8; TILES];
     let counts = scan(grid, level, &mut marks);
     let segments = counts.segments;
     let peak = counts.peak;
@@ -89,21 +92,6 @@ fn pass_over(
         rings: progress.rings,
         head: progress.head,
     })
-}
-
-// The stitching pass over the lent work tables, where the grid and both tables fit; nothing is touched where they do not.
-pub fn run_pass(
-    values: &[f64],
-    level: Level,
-    dx: usize,
-    dy: usize,
-    lines: &mut [u32],
-    links: &mut [u32],
-) -> Result<Drawing, Refusal>
-    ensures { Passed values.now level dx dy lines.old links.old result lines.new links.new }
-{
-    grid_fit(values.len(), dx, dy)?;
-    pass_over(values, level, dx, dy, lines, links)
 }
 
 // All room for the rings of a grid at one level. On success the needed words of both work tables are zero; a refusal changes nothing.

@@ -17,6 +17,7 @@ pub const RECORD_STRIDE: usize = 6;
 // The words of a record without its area. A build works on such records, and spreads them out at the end.
 pub const SHORT_STRIDE: usize = 4;
 
+// Kept: numbers for the classes and for no owner, since a directory is words that the caller lends, as the C interface has them.
 // The class of a polygon, in a directory record.
 pub const POLYGON: u32 = 0;
 

@@ -9,40 +9,33 @@ use error::Refusal;
 use isoringbuilder::{Drawing, answer_for, link_words, open_words, run_pass};
 use limits::RECORD_STRIDE;
 use packing::clear;
-use plotting::write_lines;
+use plotting::{Plot, write_lines};
 use scope::Level;
 use smoothing::Placement;
 
 // The points and the directory of the lines that a pass has drawn, where both fit; both are spared where one does not.
 fn plot(
     drawing: Drawing,
-    values: &[f64],
-    level: Level,
-    dx: u32,
-    dy: u32,
-    smooth: bool,
-    placement: Placement,
+    plot: Plot,
     links: &[u32],
     points: &mut [f64],
     directory: &mut [u32],
 ) -> Result<u32, Refusal>
-    requires { 2 * (dx + 1) < 2 ^ 32 }
-    ensures { Plotted drawing values.now level.threshold dx dy smooth (placing_of placement) links.now points.old directory.old result
+    ensures { Plotted drawing plot.entry.values.now plot.entry.level.threshold plot.entry.dx plot.entry.dy plot.entry.smooth (placing_of plot.entry.placement) links.now points.old directory.old result
         points.new directory.new }
 {
     let segments = drawing.segments;
     let room = directory.len() / RECORD_STRIDE;
     let count = answer_for(segments, drawing.rings, points.len(), room)?;
     let head = drawing.head;
-    write_lines(
-        values, level, dx, dy, smooth, placement, links, head, segments, points, directory,
-    );
+    write_lines(plot, links, head, segments, points, directory);
     Ok(count)
 }
 
 // Every ring of a grid at one level as a line, in the crate's order, vertex order and first vertex: points packed by ring number, smoothed where that is
 // asked, then placed, and a directory record a ring. On success, and where points or directory are short, the needed words of both work tables are zero; any
 // refusal spares the outputs.
+// Kept: parameters one by one, since users name this call and its C entry hands them so.
 pub fn contour_lines(
     values: &[f64],
     level: Level,
@@ -59,9 +52,15 @@ pub fn contour_lines(
         lines.new links.new points.new directory.new }
 {
     let drawing = run_pass(values, level, dx, dy, lines, links)?;
-    let answer = plot(
-        drawing, values, level, dx as u32, dy as u32, smooth, placement, links, points, directory,
-    );
+    let asked = Plot {
+        values,
+        level,
+        dx: dx as u32,
+        dy: dy as u32,
+        smooth,
+        placement,
+    };
+    let answer = plot(drawing, asked, links, points, directory);
     clear(lines, open_words(dx, drawing.peak));
     clear(links, link_words(drawing.segments));
     answer

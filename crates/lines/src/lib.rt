@@ -28,6 +28,7 @@ pub struct Entry {
 }
 
 // A new line of one link, `k`, from the point of index `s` to that of index `e`, filed at the frontier words of both.
+// Kept: `lines`, `links`, `p`, `dx` beside each other, since a struct of `&mut` asks a clause a table more of each function, that it holds the same table.
 #[tactic(auto, unfolding(machine::specs::Machine::started, machine::specs::Machine::word_of))]
 pub fn start(
     lines: &mut [u32],

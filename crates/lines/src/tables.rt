@@ -1,11 +1,12 @@
 // The words of the open table and of the link table: a word, a slot, a link, and the release of a slot.
 ghost use Rattle.std.specs.Prelude.{◌≡◌};
-ghost use Rattle.machine.specs.Machine.{word_of, slot_word, column_word, link_point, with_next, with_link, moved, released};
+ghost use Rattle.machine.specs.Machine.{slot_word, column_word, link_point, link_next, with_next, with_link, moved, released};
 ghost use Rattle.lines.specs.Values.{slot_at, slot_put};
 
-use lent::{low_word, put, word};
+use lent::{put, word};
 
 // What a slot of the open table holds of its line: the first link, the last link, the index of the end point, and the number of links.
+// Kept: slots and links are words of two lent tables, since the library allocates nothing and the C interface lends words.
 #[derive(Clone, Copy)]
 pub struct Slot {
     pub first: u32,
@@ -26,14 +27,6 @@ impl Slot {
             size: 1,
         }
     }
-}
-
-// A sum as a word holds it, modulo 2^32.
-#[tactic(auto, unfolding(machine::specs::Machine::word_of))]
-pub fn word_of(sum: u64) -> u32
-    ensures { result ≡ word_of sum }
-{
-    low_word(sum)
 }
 
 // Where a part of a slot stands in the open table of a grid with `dx` columns.
@@ -83,6 +76,14 @@ pub fn link_point(links: &[u32], k: u32) -> u32
     ensures { result ≡ link_point links.now k }
 {
     word(links, 2 * (k as usize))
+}
+
+// The link after link `k`, and the mark with it where `k` is the last of its ring.
+#[tactic(auto, unfolding(machine::specs::Machine::link_next))]
+pub fn next_link(links: &[u32], k: u32) -> u32
+    ensures { result ≡ link_next links.now k }
+{
+    word(links, 2 * (k as usize) + 1)
 }
 
 // Stores which link comes after link `k`.

@@ -34,6 +34,7 @@ pub fn measure(ring: &[u16]) -> Found
 }
 
 // The signed area, in two's complement, of the ring of `count` points from point `first` on, and 0 where the points do not reach so far.
+// Kept: first point and count and no slice, since a record may reach past the points, and its area is 0 then.
 pub fn area_of(points: &[u16], first: u32, count: u32) -> u64
     ensures { result ≡ twos_complement (area_in points.now first count) }
 {

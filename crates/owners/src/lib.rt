@@ -8,7 +8,7 @@ ghost use Rattle.std.proofs.Common.{rules};
 ghost use Rattle.scope.specs.Contour.{takes};
 ghost use Rattle.extents.specs.Extents.{reach};
 ghost use Rattle.extents.specs.Ladders.{item_extent, Raised};
-ghost use Rattle.extents.specs.Records.{record_ring, rank_of, Filed};
+ghost use Rattle.extents.specs.Records.{record_first, record_count, record_ring, rank_of, Filed};
 ghost use Rattle.owners.specs.Owned.{class_in, Classed, owner_in, Owned};
 ghost use Rattle.owners.specs.Searched.{takes_other, evenly_taken, bettered, first_taker, RankIs, NextFound, NearRing, best_word};
 ghost use Rattle.owners.specs.Once.{Filed-prop};
@@ -122,26 +122,27 @@ impl<'a> Search<'a> {
         }
     }
 
+    // Where the points of the ring of record `r` stand.
+    #[tactic(auto, unfolding(extents::specs::Records::record_first, extents::specs::Records::record_count))]
+    fn span_at(&self, r: usize) -> Span
+        requires { r < self.now.n }
+        ensures { (result.first ≡ record_first self.now.directory.now r) × (result.count ≡ record_count self.now.directory.now r) }
+    {
+        Span {
+            first: self.directory[SHORT_STRIDE * r] as usize,
+            count: self.directory[SHORT_STRIDE * r + 1] as usize,
+        }
+    }
+
     // Whether the ring of record `r` takes the ring of record `at`.
-    #[tactic(auto, unfolding(extents::specs::Records::record_ring, extents::specs::Records::record_first, extents::specs::Records::record_count))]
+    #[tactic(auto, unfolding(extents::specs::Records::record_ring))]
     fn record_takes(&self, r: usize, at: usize) -> bool
         requires { (r < self.now.n) × (at < self.now.n) }
         ensures { result ≡ takes (record_ring self.now.points.now self.now.directory.now r) (record_ring self.now.points.now self.now.directory.now at) }
     {
-        let outer_first = self.directory[SHORT_STRIDE * r] as usize;
-        let outer_count = self.directory[SHORT_STRIDE * r + 1] as usize;
-        let first = self.directory[SHORT_STRIDE * at] as usize;
-        let count = self.directory[SHORT_STRIDE * at + 1] as usize;
-        taking::takes(
-            self.points,
-            Span {
-                first: outer_first,
-                count: outer_count,
-            },
-            Span { first, count },
-            self.table,
-            self.filing.chunks,
-        )
+        let outer = self.span_at(r);
+        let tested = self.span_at(at);
+        taking::takes(self.points, outer, tested, self.table, self.filing.chunks)
     }
 
     // Whether the ring of a number is another than that of record `at`, and takes it.

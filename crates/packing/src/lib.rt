@@ -4,20 +4,12 @@
 
 ghost use Rattle.std.specs.Prelude.{◌≡◌, ◌+◌, ◌*◌, ◌%◌, ◌^◌, ◌<◌};
 ghost use Rattle.std.proofs.lemmas.List.Edits.{sets};
-ghost use Rattle.machine.specs.Machine.{link_next};
 ghost use Rattle.machine.specs.Walk.{index_words, point_words, walk_points, record_words, walk_records};
 ghost use Rattle.packing.specs.Cleared.{cleared};
 
-use lent::{MARK, low_word, put, word};
+use lent::{MARK, low_word, put};
 use limits::{LINE, NO_OWNER, SHORT_STRIDE};
-
-// The link after link `k`, and the mark with it where `k` is the last of its ring.
-#[tactic(auto, unfolding(machine::specs::Machine::link_next))]
-pub fn next_link(links: &[u32], k: u32) -> u32
-    ensures { result ≡ link_next links.now k }
-{
-    word(links, 2 * (k as usize) + 1)
-}
+use lines::tables::{link_point, next_link};
 
 // Stores the point of an index as two words, from word `at` on: X, then Y.
 #[tactic(auto, unfolding(machine::specs::Walk::index_words, scope::specs::Cells::indexed_point))]
@@ -34,15 +26,16 @@ pub fn put_index(points: &mut [u16], dx: u32, index: u32, at: usize)
 }
 
 // Stores the start point of link `k`, from word `at` on.
-#[tactic(auto, unfolding(machine::specs::Walk::point_words, machine::specs::Machine::link_point))]
+#[tactic(auto, unfolding(machine::specs::Walk::point_words))]
 fn put_point(links: &[u32], dx: u32, k: u32, points: &mut [u16], at: usize)
     ensures { points.new ≡ sets points.old at (point_words dx links.now k) }
 {
-    put_index(points, dx, word(links, 2 * (k as usize)), at);
+    put_index(points, dx, link_point(links, k), at);
 }
 
 // Stores the record of a ring without its area as four words, from word `at` on: the number of its first point, how many points it has, its class, and no
 // owner.
+// Kept: a record is words of a lent table and no struct, since the library allocates nothing and the C interface lends words.
 #[tactic(auto, unfolding(machine::specs::Walk::record_words, scope::specs::Limits::no_owner))]
 pub fn put_record(directory: &mut [u32], at: usize, first: u64, count: u64)
     ensures { directory.new ≡ sets directory.old at (record_words first count) }

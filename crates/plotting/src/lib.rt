@@ -12,41 +12,53 @@ ghost use Rattle.smoothing.specs.Values.{placing_of};
 ghost use Rattle.plotting.specs.Plot.{point_of, vertex_at};
 
 use cells::{Point, indexed_point};
-use lent::{MARK, put, word};
+use lent::{MARK, put};
 use limits::{RECORD_STRIDE, SHORT_STRIDE};
+use lines::tables::{link_point, next_link};
 use measuring::{put_area, turned};
-use packing::{Walk, next_link, put_record};
+use packing::{Walk, put_record};
 use scope::Level;
 use smoothing::{Placement, line_vertex};
 
-// The start point of link `k`.
-#[tactic(auto, unfolding(machine::specs::Walk::start_point, machine::specs::Machine::link_point))]
-fn start_of(links: &[u32], dx: u32, k: u32) -> Point
-    requires { 2 * (dx + 1) < 2 ^ 32 }
-    ensures { point_of result ≡ start_point dx links.now k }
-{
-    indexed_point(word(links, 2 * (k as usize)), dx)
+// What the vertices of a build of lines are made of: the samples with their level and their sides, whether a vertex is smoothed, and where it is placed.
+#[derive(Clone, Copy)]
+pub struct Plot<'a> {
+    pub values: &'a [f64],
+    pub level: Level,
+    pub dx: u32,
+    pub dy: u32,
+    pub smooth: bool,
+    pub placement: Placement,
+    pub ghost narrow: { 2 * (dx + 1) < 2 ^ 32 },
 }
 
-// Stores the line's vertex at a point as two words, from word `at` on: x, then y.
-#[tactic(auto, unfolding(scope::specs::Tables::vertex_words, smoothing::specs::Values::vertex_of))]
-fn put_vertex(
-    values: &[f64],
-    level: Level,
-    dx: u32,
-    dy: u32,
-    smooth: bool,
-    placement: Placement,
-    point: Point,
-    points: &mut [f64],
-    at: usize,
-)
-    ensures { points.new ≡ sets points.old at (vertex_words (line_vertex smooth values.now level.threshold dx dy (placing_of placement) (point_of point) ∷ [])) }
-{
-    let vertex = line_vertex(values, level, dx, dy, smooth, placement, point);
-    if at < points.len() {
-        put(points, at, vertex.x);
-        put(points, at + 1, vertex.y);
+impl Plot<'_> {
+    // The start point of link `k`.
+    #[tactic(auto, unfolding(machine::specs::Walk::start_point))]
+    fn start_of(self, links: &[u32], k: u32) -> Point
+        ensures { point_of result ≡ start_point self.entry.dx links.now k }
+    {
+        indexed_point(link_point(links, k), self.dx)
+    }
+
+    // Stores the line's vertex at a point as two words, from word `at` on: x, then y.
+    #[tactic(auto, unfolding(scope::specs::Tables::vertex_words, smoothing::specs::Values::vertex_of))]
+    fn put_vertex(self, point: Point, points: &mut [f64], at: usize)
+        ensures { points.new ≡ sets points.old at (vertex_words (line_vertex self.entry.smooth self.entry.values.now self.entry.level.threshold self.entry.dx self.entry.dy (placing_of self.entry.placement) (point_of point) ∷ [])) }
+    {
+        let vertex = line_vertex(
+            self.values,
+            self.level,
+            self.dx,
+            self.dy,
+            self.smooth,
+            self.placement,
+            point,
+        );
+        if at < points.len() {
+            put(points, at, vertex.x);
+            put(points, at + 1, vertex.y);
+        }
     }
 }
 
@@ -59,6 +71,7 @@ fn stepped(area: u64, from: Point, to: Point) -> u64
 
 // Stores the record of a line as six words, from word `at` on: the number of its first point, how many points it has, its class, no owner, and the area of its
 // ring.
+// Kept: words of a lent table and no struct, as `put_record` of `packing` says.
 #[tactic(auto, unfolding(machine::specs::Walk::record_words))]
 fn put_line(directory: &mut [u32], at: usize, first: u64, count: u64, area: u64)
     requires { at < 2 ^ 35 }
@@ -73,48 +86,30 @@ fn put_line(directory: &mut [u32], at: usize, first: u64, count: u64, area: u64)
 // links have it, before any vertex was smoothed. Past the end of a table nothing is stored.
 // Kept: `write_rings` of `packing` has this loop too, and says there why one walk for both is no plainer.
 pub fn write_lines(
-    values: &[f64],
-    level: Level,
-    dx: u32,
-    dy: u32,
-    smooth: bool,
-    placement: Placement,
+    plot: Plot,
     links: &[u32],
     head: u32,
     count: u32,
     points: &mut [f64],
     directory: &mut [u32],
 )
-    requires { 2 * (dx + 1) < 2 ^ 32 }
-    ensures points_after { points.new ≡ sets points.old 0 (walk_words (vertex_at smooth values.now level.threshold dx dy (placing_of placement) links.now) links.now head head count) }
-    ensures directory_after { directory.new ≡ sets directory.old 0 (walk_measured dx links.now head 0 0 (pos 0) head count) }
+    ensures points_after { points.new ≡ sets points.old 0 (walk_words (vertex_at plot.entry.smooth plot.entry.values.now plot.entry.level.threshold plot.entry.dx plot.entry.dy (placing_of plot.entry.placement) links.now) links.now head head count) }
+    ensures directory_after { directory.new ≡ sets directory.old 0 (walk_measured plot.entry.dx links.now head 0 0 (pos 0) head count) }
 {
     let mut walk = Walk::begin(head);
-    let mut point = start_of(links, dx, head);
+    let mut point = plot.start_of(links, head);
     let mut area: u64 = 0;
     for _ in 0..count {
-        put_vertex(
-            values, level, dx, dy, smooth, placement, point, points, walk.at,
-        );
+        plot.put_vertex(point, points, walk.at);
         let next = next_link(links, walk.k);
         if next < MARK {
-            let to = start_of(links, dx, next);
+            let to = plot.start_of(links, next);
             area = stepped(area, point, to);
             point = to;
             walk = walk.along(next);
         } else {
-            let begin = start_of(links, dx, walk.first);
-            put_vertex(
-                values,
-                level,
-                dx,
-                dy,
-                smooth,
-                placement,
-                begin,
-                points,
-                walk.at + 2,
-            );
+            let begin = plot.start_of(links, walk.first);
+            plot.put_vertex(begin, points, walk.at + 2);
             let whole = stepped(area, point, begin);
             put_line(
                 directory,
@@ -124,7 +119,7 @@ pub fn write_lines(
                 whole,
             );
             walk = walk.around(next - MARK, RECORD_STRIDE);
-            point = start_of(links, dx, walk.k);
+            point = plot.start_of(links, walk.k);
             area = 0;
         }
     }

@@ -174,6 +174,7 @@ pub fn isoband_records(
 }
 
 // How many words a reader is lent: four a ring where the rings' words were copied, and none otherwise.
+// Kept: a flag and no `Option`, since `words_from_records` promises to answer whether it copied.
 #[tactic(auto, unfolding(crate::specs::Over::read_words, scope::specs::Room::directory_words, scope::specs::Limits::record_stride))]
 fn read_words(rings: u32, copied: bool) -> usize
     ensures { result ≡ read_words rings copied }

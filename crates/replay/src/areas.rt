@@ -1,5 +1,4 @@
 // Areas, as a text lists them and as a directory holds them: two words in two's complement, low word first; and the area that two such words are.
-use std::num::wrapping_sub_u32;
 
 // Stands for an area of 0 in a text, as no number of a text has a sign.
 const NO_AREA: u32 = 50000;
@@ -9,7 +8,7 @@ const ONES: u32 = 4294967295;
 
 // The low word of the area that a number of a text stands for.
 pub fn low_word(number: u32) -> u32 {
-    wrapping_sub_u32(number, NO_AREA)
+    number.wrapping_sub(NO_AREA)
 }
 
 // The high word of the area that a number of a text stands for.
@@ -25,8 +24,8 @@ pub fn other_high(high: u32) -> u32 {
 // The area of a low word and one of the two high words.
 pub fn area_of(low: u32, high: u32) -> i64 {
     if high == 0 {
-        return low as i64;
+        i64::from(low)
+    } else {
+        i64::from(low) - 4294967296
     }
-    let left = (ONES - low) as i64;
-    -1 - left
 }

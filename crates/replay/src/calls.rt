@@ -1,11 +1,11 @@
 // Calls of the library on a case, in tables of their own whose words are soil; and whether each answers as expected and leaves every word as it should.
 use crate::cases::{
-    Build, Case, GENEROUS, Room, built_code, first_code, grid_code, lent_room, second_code,
-    short_code, work_code,
+    Build, Case, Lending, Room, built_agrees, first_agrees, grid_refusal, lent_room, second_agrees,
+    short_refusal, work_refusal,
 };
 use crate::tables::{
-    FLOAT_SOIL, SOIL, SOILED, WORDS, floats_front, floats_hold, floats_lent, floats_part, lent,
-    points_hold, points_lent, words_hold,
+    FLOAT_SOIL, SOIL, SOILED, WORDS, floats_hold, floats_part, front, front_mut, points_hold,
+    words_hold,
 };
 use bands::{band_first_report, band_second_report};
 use contourbuilder::{contours, isobands};
@@ -22,11 +22,9 @@ pub const VALUES: usize = 4104;
 pub const PLACED: f64 = 7.0;
 
 pub fn level(case: Case) -> Level {
-    let list = case.list;
-    let rule = list.rule;
     Level {
-        threshold: list.lower,
-        rule,
+        threshold: case.list.lower,
+        rule: case.list.rule,
     }
 }
 
@@ -38,8 +36,7 @@ fn report_first(case: Case, grid: &[f64]) -> Result<FirstReport, Refusal> {
 // The first report of a band.
 fn report_band_first(case: Case, grid: &[f64], thresholds: &[f64]) -> Result<FirstReport, Refusal> {
     let list = case.list;
-    let rule = list.rule;
-    band_first_report(grid, thresholds, rule, list.k, case.dx, case.dy)
+    band_first_report(grid, thresholds, list.rule, list.k, case.dx, case.dy)
 }
 
 // The second report of one threshold.
@@ -61,9 +58,8 @@ fn report_band_second(
     links: &mut [u32],
 ) -> Result<SecondReport, Refusal> {
     let list = case.list;
-    let rule = list.rule;
     band_second_report(
-        grid, thresholds, rule, list.k, case.dx, case.dy, lines, links,
+        grid, thresholds, list.rule, list.k, case.dx, case.dy, lines, links,
     )
 }
 
@@ -105,9 +101,8 @@ fn build_band(
     directory: &mut [u32],
 ) -> Result<u32, Refusal> {
     let list = case.list;
-    let rule = list.rule;
     isobands(
-        grid, thresholds, rule, list.k, case.dx, case.dy, lines, links, points, directory,
+        grid, thresholds, list.rule, list.k, case.dx, case.dy, lines, links, points, directory,
     )
 }
 
@@ -136,8 +131,7 @@ fn build_lines(
 
 // The first report of a band, or of one threshold.
 fn run_first(case: Case, grid: &[f64], thresholds: &[f64]) -> Result<FirstReport, Refusal> {
-    let build = case.build;
-    match build {
+    match case.build {
         Build::Band => report_band_first(case, grid, thresholds),
         _ => report_first(case, grid),
     }
@@ -151,8 +145,7 @@ fn run_second(
     lines: &mut [u32],
     links: &mut [u32],
 ) -> Result<SecondReport, Refusal> {
-    let build = case.build;
-    match build {
+    match case.build {
         Build::Band => report_band_second(case, grid, thresholds, lines, links),
         _ => report_second(case, grid, lines, links),
     }
@@ -169,8 +162,7 @@ fn run_build(
     floats: &mut [f64],
     directory: &mut [u32],
 ) -> Result<u32, Refusal> {
-    let build = case.build;
-    match build {
+    match case.build {
         Build::Rings => build_rings(case, grid, lines, links, points, directory),
         Build::Contour => build_contour(case, grid, lines, links, points, directory),
         Build::Band => build_band(case, grid, thresholds, lines, links, points, directory),
@@ -185,23 +177,28 @@ pub fn words_if(is_written: bool, words: usize) -> usize {
 
 // Whether a build's points are floats.
 pub fn has_floats(build: Build) -> bool {
-    match build {
-        Build::Lines => true,
-        _ => false,
+    matches!(build, Build::Lines)
+}
+
+// Whether a call writes its work tables: it does not where it is refused for the grid, the list or a work table.
+fn is_spent(refusal: Option<Refusal>) -> bool {
+    match refusal {
+        None => true,
+        Some(reason) => 7 <= error::number(reason),
     }
 }
 
-// Whether the work tables that were lent are as a call with this code leaves them where it needs this room: untouched after refusals 1 to 6, and else zero in
+// Whether the work tables that were lent are as a call that is refused so leaves them where it needs this room: untouched after refusals 1 to 6, and else zero in
 // these words.
 pub fn work_holds(
     need: Room,
     room: Room,
-    code: u32,
+    refusal: Option<Refusal>,
     lines: &[u32; WORDS],
     links: &[u32; WORDS],
 ) -> bool {
     let none = [0u32; 0];
-    let is_spent = code == 0 || 7 <= code;
+    let is_spent = is_spent(refusal);
     words_hold(lines, room.open, words_if(is_spent, need.open), &none, 0)
         & words_hold(
             links,
@@ -237,32 +234,38 @@ pub fn outputs_hold(
         & floats_hold(floats, placed, worded, listed, PLACED)
 }
 
-// Whether the second report has this code in work tables that are lent this room, and leaves them as it should.
-fn second_holds(case: Case, room: Room, code: u32, grid: &[f64], thresholds: &[f64]) -> bool {
+// Whether the second report passes, or is refused so, in work tables that are lent this room, and leaves them as it should.
+fn second_holds(
+    case: Case,
+    room: Room,
+    refusal: Option<Refusal>,
+    grid: &[f64],
+    thresholds: &[f64],
+) -> bool {
     let mut lines = [SOIL; WORDS];
     let mut links = [SOIL; WORDS];
     let report = run_second(
         case,
         grid,
         thresholds,
-        lent(&mut lines, room.open),
-        lent(&mut links, room.linked),
+        front_mut(&mut lines, room.open),
+        front_mut(&mut links, room.linked),
     );
-    (second_code(report, case.counts) == code) & work_holds(case.room, room, code, &lines, &links)
+    second_agrees(report, case.counts, refusal)
+        & work_holds(case.room, room, refusal, &lines, &links)
 }
 
-// Whether the build has this code in tables that are lent this room, and leaves them as it should.
+// Whether the build passes, or is refused so, in tables that are lent this room, and leaves them as it should.
 fn build_holds(
     case: Case,
     room: Room,
-    code: u32,
+    refusal: Option<Refusal>,
     grid: &[f64],
     thresholds: &[f64],
     records: &[u32],
     listed: &[u32],
 ) -> bool {
-    let build = case.build;
-    let floating = has_floats(build);
+    let floating = has_floats(case.build);
     let mut lines = [SOIL; WORDS];
     let mut links = [SOIL; WORDS];
     let mut points = [SOILED; WORDS];
@@ -272,18 +275,18 @@ fn build_holds(
         case,
         grid,
         thresholds,
-        lent(&mut lines, room.open),
-        lent(&mut links, room.linked),
-        points_lent(&mut points, words_if(!floating, room.worded)),
-        floats_lent(&mut floats, words_if(floating, room.worded)),
-        lent(&mut directory, room.recorded),
+        front_mut(&mut lines, room.open),
+        front_mut(&mut links, room.linked),
+        front_mut(&mut points, words_if(!floating, room.worded)),
+        front_mut(&mut floats, words_if(floating, room.worded)),
+        front_mut(&mut directory, room.recorded),
     );
-    (built_code(built, case.counts.rings) == code)
-        & work_holds(case.room, room, code, &lines, &links)
+    built_agrees(built, case.counts.rings, refusal)
+        & work_holds(case.room, room, refusal, &lines, &links)
         & outputs_hold(
             case.room,
             room,
-            code == 0,
+            refusal.is_none(),
             floating,
             records,
             listed,
@@ -293,32 +296,53 @@ fn build_holds(
         )
 }
 
-// Whether all calls have the code that is expected where table `short` is a word short, and leave the tables as they should.
+// Whether all calls pass, or are refused so, in the room that is lent, and leave the tables as they should.
 pub fn holds(
     case: Case,
-    short: u32,
-    code: u32,
+    lending: Lending,
+    refusal: Option<Refusal>,
     records: &[u32],
     listed: &[u32],
     values: &[f64; VALUES],
 ) -> bool {
-    let room = lent_room(case.room, short);
+    let room = lent_room(case.room, lending);
     let pair = case.list;
     let list = [3.0, pair.lower, pair.upper];
     let thresholds = floats_part(&list, pair.from, pair.to);
-    let grid = floats_front(values, case.samples);
-    (first_code(run_first(case, grid, thresholds), case.counts) == grid_code(code))
-        & second_holds(case, room, work_code(code), grid, thresholds)
-        & build_holds(case, room, code, grid, thresholds, records, listed)
+    let grid = front(values, case.samples);
+    first_agrees(
+        run_first(case, grid, thresholds),
+        case.counts,
+        grid_refusal(refusal),
+    ) & second_holds(case, room, work_refusal(refusal), grid, thresholds)
+        & build_holds(case, room, refusal, grid, thresholds, records, listed)
+}
+
+// Whether all calls answer as expected with that table a word short.
+fn short_holds(
+    case: Case,
+    short: Refusal,
+    records: &[u32],
+    listed: &[u32],
+    values: &[f64; VALUES],
+) -> bool {
+    let refusal = short_refusal(case.room, short);
+    holds(
+        case,
+        Lending::Short(short),
+        refusal,
+        records,
+        listed,
+        values,
+    )
 }
 
 // Whether all calls answer as expected in exact room, with each table one word short, and in generous room.
 pub fn case_holds(case: Case, records: &[u32], listed: &[u32], values: &[f64; VALUES]) -> bool {
-    let room = case.room;
-    holds(case, 0, 0, records, listed, values)
-        & holds(case, 5, short_code(room, 5), records, listed, values)
-        & holds(case, 6, short_code(room, 6), records, listed, values)
-        & holds(case, 7, short_code(room, 7), records, listed, values)
-        & holds(case, 8, short_code(room, 8), records, listed, values)
-        & holds(case, GENEROUS, 0, records, listed, values)
+    holds(case, Lending::Exact, None, records, listed, values)
+        & short_holds(case, Refusal::OpenShort, records, listed, values)
+        & short_holds(case, Refusal::LinksShort, records, listed, values)
+        & short_holds(case, Refusal::PointsShort, records, listed, values)
+        & short_holds(case, Refusal::DirectoryShort, records, listed, values)
+        & holds(case, Lending::Generous, None, records, listed, values)
 }

@@ -1,21 +1,14 @@
-// A case: a grid, the build that is asked for, and the counts and the room that are expected; and the rooms in which a case is run, with the code that a call has
-// in each. A call's code is 0, or the number of its refusal.
+// A case: a grid, the build that is asked for, and the counts and the room that are expected; and the rooms in which a case is run, with what a call answers
+// in each: whether it is refused, and why.
 use error::Refusal;
 use isoringbuilder::SecondReport;
 use limits::RECORD_STRIDE;
 use scan::FirstReport;
 use scope::Rule;
 use smoothing::Placement;
-use std::num::wrapping_add_usize;
-
-// Stands for generous room where else the number of the table that is a word short stands.
-pub const GENEROUS: u32 = 100;
 
 // The words that a generous room has beside those that are needed.
 pub const SPARE: usize = 3;
-
-// The code of a call that passed with other counts than expected.
-const MISCOUNTED: u32 = 99;
 
 #[derive(Clone, Copy)]
 pub enum Build {
@@ -41,6 +34,14 @@ pub struct Room {
     pub linked: usize,
     pub worded: usize,
     pub recorded: usize,
+}
+
+// The room that is lent: exact, or with the table a word short for which there is this refusal, or generous.
+#[derive(Clone, Copy)]
+pub enum Lending {
+    Exact,
+    Short(Refusal),
+    Generous,
 }
 
 // The thresholds: the lower one is that of a build with one. Of the list 3, lower, upper a band is handed the part from one number to before another, and asked
@@ -85,95 +86,95 @@ pub fn exact_room(dx: u32, counts: Counts) -> Room {
 }
 
 pub fn one_less_if(is_short: bool, n: usize) -> usize {
-    if is_short && 0 < n { n - 1 } else { n }
+    n.saturating_sub(usize::from(is_short))
 }
 
-// The room with one table a word short: the one whose refusal has this number.
-fn short_room(room: Room, short: u32) -> Room {
+// The room with one table a word short: the one for which there is this refusal.
+fn short_room(room: Room, short: Refusal) -> Room {
     Room {
-        open: one_less_if(short == 5, room.open),
-        linked: one_less_if(short == 6, room.linked),
-        worded: one_less_if(short == 7, room.worded),
-        recorded: one_less_if(short == 8, room.recorded),
+        open: one_less_if(short == Refusal::OpenShort, room.open),
+        linked: one_less_if(short == Refusal::LinksShort, room.linked),
+        worded: one_less_if(short == Refusal::PointsShort, room.worded),
+        recorded: one_less_if(short == Refusal::DirectoryShort, room.recorded),
     }
 }
 
-// The room that is lent: generous, or with that table a word short.
-pub fn lent_room(room: Room, short: u32) -> Room {
-    if short == GENEROUS {
-        Room {
-            open: wrapping_add_usize(room.open, SPARE),
-            linked: wrapping_add_usize(room.linked, SPARE),
-            worded: wrapping_add_usize(room.worded, SPARE),
-            recorded: wrapping_add_usize(room.recorded, SPARE),
-        }
+// The room with some words to spare in each table.
+fn generous_room(room: Room) -> Room {
+    Room {
+        open: room.open.wrapping_add(SPARE),
+        linked: room.linked.wrapping_add(SPARE),
+        worded: room.worded.wrapping_add(SPARE),
+        recorded: room.recorded.wrapping_add(SPARE),
+    }
+}
+
+// The words that are lent of each table, where the case needs this room.
+pub fn lent_room(room: Room, lending: Lending) -> Room {
+    match lending {
+        Lending::Exact => room,
+        Lending::Short(refusal) => short_room(room, refusal),
+        Lending::Generous => generous_room(room),
+    }
+}
+
+// Why a call is refused with that table a word short: it is not where the table needs no word at all.
+pub fn short_refusal(room: Room, short: Refusal) -> Option<Refusal> {
+    if short == Refusal::OpenShort || 0 < room.linked {
+        Some(short)
     } else {
-        short_room(room, short)
+        None
     }
 }
 
-// The code with that table a word short: 0 where it needs no word at all.
-pub fn short_code(room: Room, short: u32) -> u32 {
-    if short == 5 || 0 < room.linked {
-        short
-    } else {
-        0
+// Why a call is refused that is lent no points and no directory, where one that is lent them is refused so.
+pub fn work_refusal(refusal: Option<Refusal>) -> Option<Refusal> {
+    match refusal {
+        Some(Refusal::PointsShort | Refusal::DirectoryShort) => None,
+        _ => refusal,
     }
 }
 
-// The code of a call that is lent no points and no directory, where one that is lent them has this code.
-pub fn work_code(code: u32) -> u32 {
-    if code == 7 || code == 8 { 0 } else { code }
+// Why a call is refused that is lent no tables, where one that is lent them is refused so.
+pub fn grid_refusal(refusal: Option<Refusal>) -> Option<Refusal> {
+    refusal.filter(|reason| error::number(*reason) < 5)
 }
 
-// The code of a call that is lent no tables, where one that is lent them has this code.
-pub fn grid_code(code: u32) -> u32 {
-    if 5 <= code { 0 } else { code }
-}
-
-// The code of a first report that is to have these counts.
-pub fn first_code(report: Result<FirstReport, Refusal>, counts: Counts) -> u32 {
-    match report {
-        Err(refusal) => error::number(refusal),
-        Ok(FirstReport { segments, peak }) => {
-            if segments == counts.segments && peak == counts.peak {
-                0
-            } else {
-                MISCOUNTED
-            }
-        }
+// Whether a call, whose counts are as expected or not, is refused so, or passes with these counts where it is not to be refused.
+fn agrees(counted: Result<bool, Refusal>, refusal: Option<Refusal>) -> bool {
+    match refusal {
+        None => counted == Ok(true),
+        Some(reason) => counted == Err(reason),
     }
 }
 
-// The code of a second report that is to have these counts.
-pub fn second_code(report: Result<SecondReport, Refusal>, counts: Counts) -> u32 {
-    match report {
-        Err(refusal) => error::number(refusal),
-        Ok(
-            SecondReport {
-                segments,
-                rings,
-                peak,
-                points,
-            },
-        ) => {
-            if segments == counts.segments
-                && rings == counts.rings
-                && peak == counts.peak
-                && points == counts.points
-            {
-                0
-            } else {
-                MISCOUNTED
-            }
-        }
-    }
+// Whether a first report has these counts, or is refused so.
+pub fn first_agrees(
+    report: Result<FirstReport, Refusal>,
+    counts: Counts,
+    refusal: Option<Refusal>,
+) -> bool {
+    let counted = report.map(|first| first.segments == counts.segments
+        && first.peak == counts.peak);
+    agrees(counted, refusal)
 }
 
-// The code of a build that is to have this many rings.
-pub fn built_code(built: Result<u32, Refusal>, rings: u32) -> u32 {
-    match built {
-        Err(refusal) => error::number(refusal),
-        Ok(count) => { if count == rings { 0 } else { MISCOUNTED } }
-    }
+// Whether a second report has these counts, or is refused so.
+pub fn second_agrees(
+    report: Result<SecondReport, Refusal>,
+    counts: Counts,
+    refusal: Option<Refusal>,
+) -> bool {
+    let counted = report.map(|second| {
+        second.segments == counts.segments
+            && second.rings == counts.rings
+            && second.peak == counts.peak
+            && second.points == counts.points
+    });
+    agrees(counted, refusal)
+}
+
+// Whether a build has this many rings, or is refused so.
+pub fn built_agrees(built: Result<u32, Refusal>, rings: u32, refusal: Option<Refusal>) -> bool {
+    agrees(built.map(|count| count == rings), refusal)
 }

@@ -1,17 +1,11 @@
 // The fates of a contour's rings, worked out from the crate's points and held to class and owner of the crate's records.
 use crate::grids::put_records;
-use crate::tables::{SOILED, WORDS, after, points_front, put_point, word};
+use crate::tables::{SOILED, WORDS, after, fill, front};
 use crate::text::NUMBERS;
 use error::Refusal;
 use explaining::{RingFate, ring_fate};
+use lent::word;
 use limits::{HOLE, NO_OWNER, POLYGON, RECORD_STRIDE};
-
-// Stores this many coordinates.
-fn fill_points(listed: &[u32], count: usize, points: &mut [u16; WORDS]) {
-    for i in 0..count {
-        put_point(points, i, word(listed, i));
-    }
-}
 
 // Whether the record that a directory begins with has this class and this owner.
 fn is_recorded(record: &[u32], class: u32, owner: u32) -> bool {
@@ -24,7 +18,7 @@ fn same_fate(fate: Result<RingFate, Refusal>, k: u32, rings: u32, record: &[u32]
         Ok(RingFate::Polygon) => is_recorded(record, POLYGON, k),
         Ok(RingFate::Hole(owner, _)) => is_recorded(record, HOLE, owner),
         Ok(RingFate::Dropped) => is_recorded(record, HOLE, NO_OWNER),
-        Err(refusal) => (k == rings) & (error::number(refusal) == 15),
+        Err(refusal) => k == rings && refusal == Refusal::NotThere,
     }
 }
 
@@ -41,8 +35,7 @@ fn each_holds(points: &[u16], directory: &[u32], rings: u32) -> bool {
         if !fate_holds(points, directory, rings, k, rest) {
             return false;
         }
-        let next = after(rest, RECORD_STRIDE);
-        rest = next;
+        rest = after(rest, RECORD_STRIDE);
     }
     fate_holds(points, directory, rings, rings, rest)
 }
@@ -54,13 +47,13 @@ fn first_hold(
     directory: &[u32; NUMBERS],
     rings: u32,
 ) -> bool {
-    each_holds(points_front(points, worded), directory, rings)
+    each_holds(front(points, worded), directory, rings)
 }
 
 // Whether the rings of a contour of this many words of points have the fates of the records of its set.
 pub fn fates_hold(listed: &[u32], worded: usize, set: &[u32]) -> bool {
     let mut points = [SOILED; WORDS];
-    fill_points(listed, worded, &mut points);
+    fill(&mut points, worded, |i| (word(listed, i) % 65536) as u16);
     let mut directory = [0u32; NUMBERS];
     put_records(set, &mut directory);
     first_hold(&points, worded, &directory, word(set, 2))

@@ -6,8 +6,9 @@ use crate::areas::{high_word, low_word};
 use crate::calls::VALUES;
 use crate::cases::{Build, Case, Counts, Drawing, List, exact_room};
 use crate::recorded::both_hold;
-use crate::tables::{after, put, word};
+use crate::tables::after;
 use crate::text::NUMBERS;
+use lent::{put, word};
 use limits::RECORD_STRIDE;
 use scope::Rule;
 use smoothing::Placement;
@@ -130,8 +131,7 @@ pub fn put_records(set: &[u32], records: &mut [u32; NUMBERS]) {
     let mut rest = after(set, BEFORE_RECORDS);
     for ring in 0..word(set, 2) {
         put_listed(records, ring, rest);
-        let next = after(rest, LISTED);
-        rest = next;
+        rest = after(rest, LISTED);
     }
 }
 

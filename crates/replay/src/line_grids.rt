@@ -3,8 +3,9 @@
 use crate::calls::VALUES;
 use crate::cases::{Build, Drawing};
 use crate::grids::{after_records, case_of, counts_of, listed_holds, pair_of, sample_count};
-use crate::tables::{after, listed_float, put_float, word};
+use crate::tables::{after, listed_float};
 use cells::rule_of;
+use lent::{put, word};
 use smoothing::Placement;
 
 // The numbers before the samples.
@@ -14,9 +15,8 @@ const BEFORE_SAMPLES: usize = 24;
 fn fill_floats(numbers: &[u32], count: usize, values: &mut [f64; VALUES]) {
     let mut rest = numbers;
     for i in 0..count {
-        put_float(values, i, listed_float(rest));
-        let next = after(rest, 4);
-        rest = next;
+        put(values, i, listed_float(rest));
+        rest = after(rest, 4);
     }
 }
 

@@ -25,14 +25,15 @@ mod texts;
 mod tried;
 
 use cases::Build;
+use error::Refusal;
+use lent::word;
 use line_grids::lines_hold;
 use region_grids::regions_hold;
 use ring_grids::rings_hold;
 use side_limits::{grid_refused, list_refused, longest_passes};
 use std::io;
 use std::io::Read;
-use std::num::wrapping_add_u32;
-use tables::{front, word};
+use tables::front;
 use text::{NUMBERS, TEXT, read_line};
 
 #[derive(Clone, Copy)]
@@ -57,10 +58,6 @@ fn grid_holds(part: Part, numbers: &[u32; NUMBERS], count: usize) -> bool {
     }
 }
 
-fn one_if(differs: bool) -> u32 {
-    if differs { 1 } else { 0 }
-}
-
 // Writes how many grids were replayed and how many differ.
 fn print_replay(rt: &impl Print, grids: u32, differ: u32) -> io::Result<()> {
     println!(rt; "{grids} grids replayed, {differ} differ")
@@ -76,7 +73,7 @@ fn replay(rt: &impl Print, part: Part, text: &[u8; TEXT], from: usize) -> io::Re
     for _ in 0..grids {
         let line = read_line(text, at, &mut numbers);
         let is_same = grid_holds(part, &numbers, line.count);
-        differ = wrapping_add_u32(differ, one_if(!is_same));
+        differ = differ.wrapping_add(u32::from(!is_same));
         at = line.next;
     }
     print_replay(rt, grids, differ)?;
@@ -103,17 +100,17 @@ fn run_longest(rt: &impl Print, build: Build, dx: u32, dy: u32) -> io::Result<()
     print_verdict(rt, longest_passes(build, dx, dy))
 }
 
-// Runs sides and a number of values that are refused by this number, and writes what came of it.
+// Runs sides and a number of values that are refused so, and writes what came of it.
 fn run_refused(
     rt: &impl Print,
     build: Build,
-    code: u32,
+    refusal: Refusal,
     values: u32,
     dx: u32,
     dy: u32,
 ) -> io::Result<()> {
     print_sides(rt, values, dx, dy)?;
-    let holds = grid_refused(build, code, values as usize, dx as usize, dy as usize);
+    let holds = grid_refused(build, refusal, values as usize, dx as usize, dy as usize);
     print_verdict(rt, holds)
 }
 
@@ -121,18 +118,18 @@ fn run_refused(
 fn run_limits(rt: &impl Print, build: Build) -> io::Result<()> {
     run_longest(rt, build, 4096, 1)?;
     run_longest(rt, build, 1, 4096)?;
-    run_refused(rt, build, 1, 4097, 4097, 1)?;
-    run_refused(rt, build, 1, 4097, 1, 4097)?;
-    run_refused(rt, build, 1, 0, 0, 1)?;
-    run_refused(rt, build, 1, 0, 1, 0)?;
-    run_refused(rt, build, 2, 4095, 4096, 1)?;
-    run_refused(rt, build, 2, 4097, 4096, 1)
+    run_refused(rt, build, Refusal::BadSide, 4097, 4097, 1)?;
+    run_refused(rt, build, Refusal::BadSide, 4097, 1, 4097)?;
+    run_refused(rt, build, Refusal::BadSide, 0, 0, 1)?;
+    run_refused(rt, build, Refusal::BadSide, 0, 1, 0)?;
+    run_refused(rt, build, Refusal::BadDimension, 4095, 4096, 1)?;
+    run_refused(rt, build, Refusal::BadDimension, 4097, 4096, 1)
 }
 
 // Runs a list of this many thresholds without the pair that is asked for, and writes what came of it.
-fn run_list(rt: &impl Print, code: u32, length: u32, k: usize) -> io::Result<()> {
+fn run_list(rt: &impl Print, refusal: Refusal, length: u32, k: usize) -> io::Result<()> {
     print!(rt; "{length} thresholds")?;
-    print_verdict(rt, list_refused(code, length as usize, k))
+    print_verdict(rt, list_refused(refusal, length as usize, k))
 }
 
 // Replays the three parts of a text of this many bytes.
@@ -148,6 +145,7 @@ fn replay_text(rt: &impl Print, text: &[u8; TEXT], length: usize) -> io::Result<
 }
 
 // Reads until the bytes are full or the input ends, and says how many it has read.
+// Kept: no heap, as in `contour_geojson`, which has this function too: a public one needs a contract that gives its result, and none says what a reader gives.
 fn read_full(input: &mut impl Read, bytes: &mut [u8]) -> io::Result<usize> {
     let mut done: usize = 0;
     while done < bytes.len() {
@@ -175,9 +173,9 @@ fn main(rt: HostRuntime) -> io::Result<()> {
     run_limits(&rt, Build::Contour)?;
     println!(rt; "bands")?;
     run_limits(&rt, Build::Band)?;
-    run_list(&rt, 3, 0, 0)?;
-    run_list(&rt, 3, 1, 0)?;
-    run_list(&rt, 4, 2, 1)?;
+    run_list(&rt, Refusal::FewThresholds, 0, 0)?;
+    run_list(&rt, Refusal::FewThresholds, 1, 0)?;
+    run_list(&rt, Refusal::NoPair, 2, 1)?;
     println!(rt; "lines")?;
     run_limits(&rt, Build::Lines)
 }

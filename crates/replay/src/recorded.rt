@@ -5,14 +5,15 @@ ghost use Rattle.std.specs.Prelude.{◌≤◌};
 
 use crate::areas::area_of;
 use crate::calls::{VALUES, case_holds, has_floats, level, outputs_hold, words_if, work_holds};
-use crate::cases::{Build, Case, Room, built_code, lent_room, short_code};
-use crate::tables::{
-    FLOAT_SOIL, SOIL, SOILED, WORDS, after, floats_front, floats_lent, floats_part, lent,
-    points_front, points_lent, word,
+use crate::cases::{
+    Build, Case, Drawing, Lending, List, Room, built_agrees, lent_room, short_refusal,
 };
+use crate::tables::{FLOAT_SOIL, SOIL, SOILED, WORDS, after, floats_part, front, front_mut};
 use crate::text::NUMBERS;
 use crate::texts::set_holds;
 use crate::tried::{ROOM, Tried, is_soiled, try_band, try_contour, try_lines, try_rings};
+use error::Refusal;
+use lent::word;
 use limits::RECORD_STRIDE;
 use ringrecord::{RingRecord, class_word, owner_word};
 
@@ -30,17 +31,11 @@ fn run_tried(
 ) -> Tried
     requires { n ≤ 128 }
 {
-    let build = case.build;
     let level = level(case);
-    let list = case.list;
-    let rule = list.rule;
-    let k = list.k;
-    let dx = case.dx;
-    let dy = case.dy;
-    let drawing = case.drawing;
-    let smooth = drawing.smooth;
-    let placement = drawing.placement;
-    match build {
+    let List { rule, k, .. } = case.list;
+    let Drawing { smooth, placement } = case.drawing;
+    let Case { dx, dy, .. } = case;
+    match case.build {
         Build::Rings => try_rings(grid, level, dx, dy, lines, links, points, directory, n),
         Build::Contour => try_contour(grid, level, dx, dy, lines, links, points, directory, n),
         Build::Band => try_band(
@@ -54,11 +49,10 @@ fn run_tried(
 
 // Whether a record, which is that of number k, stands for the six words that a directory begins with.
 fn same_record(record: RingRecord, k: u32, directory: &[u32]) -> bool {
-    let fate = record.fate;
     record.first == word(directory, 0)
         && record.count == word(directory, 1)
-        && class_word(fate) == word(directory, 2)
-        && owner_word(k, fate) == word(directory, 3)
+        && class_word(record.fate) == word(directory, 2)
+        && owner_word(k, record.fate) == word(directory, 3)
         && record.area == area_of(word(directory, 4), word(directory, 5))
 }
 
@@ -79,23 +73,22 @@ fn records_hold(records: [RingRecord; ROOM], rings: u32, directory: &[u32]) -> b
         if !record_holds(record, k as u32, rings, rest) {
             return false;
         }
-        let next = after(rest, RECORD_STRIDE);
-        rest = next;
+        rest = after(rest, RECORD_STRIDE);
     }
     true
 }
 
-// How many rings a build with this code has written, where it has this many.
-fn rings_written(code: u32, rings: u32) -> u32 {
-    if code == 0 { rings } else { 0 }
+// How many rings a build that is refused so has written, where it has this many.
+fn rings_written(refusal: Option<Refusal>, rings: u32) -> u32 {
+    if refusal.is_none() { rings } else { 0 }
 }
 
-// Whether the build by `n` records has this code in tables that are lent this room, and leaves them and the records as it should.
+// Whether the build by `n` records passes, or is refused so, in tables that are lent this room, and leaves them and the records as it should.
 fn tried_holds(
     case: Case,
     room: Room,
     n: usize,
-    code: u32,
+    refusal: Option<Refusal>,
     grid: &[f64],
     thresholds: &[f64],
     records: &[u32],
@@ -103,8 +96,7 @@ fn tried_holds(
 ) -> bool
     requires { n ≤ 128 }
 {
-    let build = case.build;
-    let floating = has_floats(build);
+    let floating = has_floats(case.build);
     let mut lines = [SOIL; WORDS];
     let mut links = [SOIL; WORDS];
     let mut points = [SOILED; WORDS];
@@ -114,23 +106,21 @@ fn tried_holds(
         case,
         grid,
         thresholds,
-        lent(&mut lines, room.open),
-        lent(&mut links, room.linked),
-        points_lent(&mut points, words_if(!floating, room.worded)),
-        floats_lent(&mut floats, words_if(floating, room.worded)),
-        lent(&mut directory, room.recorded),
+        front_mut(&mut lines, room.open),
+        front_mut(&mut links, room.linked),
+        front_mut(&mut points, words_if(!floating, room.worded)),
+        front_mut(&mut floats, words_if(floating, room.worded)),
+        front_mut(&mut directory, room.recorded),
         n,
     );
-    let answer = tried.answer;
-    let left = tried.records;
     let rings = case.counts.rings;
-    (built_code(answer, rings) == code)
-        & records_hold(left, rings_written(code, rings), records)
-        & work_holds(case.room, room, code, &lines, &links)
+    built_agrees(tried.answer, rings, refusal)
+        & records_hold(tried.records, rings_written(refusal, rings), records)
+        & work_holds(case.room, room, refusal, &lines, &links)
         & outputs_hold(
             case.room,
             room,
-            code == 0,
+            refusal.is_none(),
             floating,
             records,
             listed,
@@ -142,12 +132,7 @@ fn tried_holds(
 
 // Whether a build's rings have a text.
 fn has_text(build: Build) -> bool {
-    match build {
-        Build::Rings => false,
-        Build::Contour => true,
-        Build::Band => true,
-        Build::Lines => false,
-    }
+    matches!(build, Build::Contour | Build::Band)
 }
 
 // Whether the set of rings that the build by records writes is read by records as by words.
@@ -162,18 +147,17 @@ fn readers_hold(case: Case, grid: &[f64], thresholds: &[f64]) -> bool {
         case,
         grid,
         thresholds,
-        lent(&mut lines, room.open),
-        lent(&mut links, room.linked),
-        points_lent(&mut points, room.worded),
+        front_mut(&mut lines, room.open),
+        front_mut(&mut links, room.linked),
+        front_mut(&mut points, room.worded),
         &mut floats,
-        lent(&mut directory, room.recorded),
+        front_mut(&mut directory, room.recorded),
         ROOM,
     );
-    let left = tried.records;
     set_holds(
-        points_front(&points, room.worded),
-        lent(&mut directory, room.recorded),
-        left,
+        front(&points, room.worded),
+        front_mut(&mut directory, room.recorded),
+        tried.records,
         case.counts.rings,
     )
 }
@@ -181,31 +165,41 @@ fn readers_hold(case: Case, grid: &[f64], thresholds: &[f64]) -> bool {
 // Whether the build by records answers as expected with as many records as rings, with more, with one fewer, and with a directory that is a word short; and whether
 // what it writes, where it has a text, is read as by words. More rings than there are records for are a difference.
 fn case_tried_holds(case: Case, records: &[u32], listed: &[u32], values: &[f64; VALUES]) -> bool {
-    let build = case.build;
     let rings = case.counts.rings as usize;
     if ROOM < rings {
         return false;
     }
     let room = case.room;
-    let short = lent_room(room, 8);
+    let short = lent_room(room, Lending::Short(Refusal::DirectoryShort));
+    let one_less = Some(Refusal::DirectoryShort);
     let pair = case.list;
     let list = [3.0, pair.lower, pair.upper];
     let thresholds = floats_part(&list, pair.from, pair.to);
-    let grid = floats_front(values, case.samples);
-    tried_holds(case, room, rings, 0, grid, thresholds, records, listed)
-        & tried_holds(case, room, ROOM, 0, grid, thresholds, records, listed)
+    let grid = front(values, case.samples);
+    tried_holds(case, room, rings, None, grid, thresholds, records, listed)
+        & tried_holds(case, room, ROOM, None, grid, thresholds, records, listed)
         & tried_holds(
             case,
             short,
             rings,
-            short_code(room, 8),
+            short_refusal(room, Refusal::DirectoryShort),
             grid,
             thresholds,
             records,
             listed,
         )
-        & (rings == 0 || tried_holds(case, room, rings - 1, 8, grid, thresholds, records, listed))
-        & (!has_text(build) || readers_hold(case, grid, thresholds))
+        & (rings == 0
+            || tried_holds(
+                case,
+                room,
+                rings - 1,
+                one_less,
+                grid,
+                thresholds,
+                records,
+                listed,
+            ))
+        & (!has_text(case.build) || readers_hold(case, grid, thresholds))
 }
 
 // Whether a case holds by words and by records.

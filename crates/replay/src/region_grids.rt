@@ -4,15 +4,9 @@ use crate::calls::VALUES;
 use crate::cases::Build;
 use crate::fates::fates_hold;
 use crate::grids::{PLAIN, after_records, case_of, counts_of, listed_holds, pair_of, sample_count};
-use crate::tables::{after, put_float, word};
+use crate::tables::{after, fill};
+use lent::word;
 use scope::Rule;
-
-// Stores this many samples.
-fn fill(numbers: &[u32], count: usize, values: &mut [f64; VALUES]) {
-    for i in 0..count {
-        put_float(values, i, word(numbers, i) as f64);
-    }
-}
 
 // The thresholds of a line, and what follows them.
 fn after_samples(line: &[u32]) -> &[u32] {
@@ -31,7 +25,12 @@ fn regions_hold_at(line: &[u32], below: f64, rule: Rule) -> bool {
     let contour_case = case_of(Build::Contour, line, counts_of(contour), list, PLAIN);
     let band_case = case_of(Build::Band, line, counts_of(band), list, PLAIN);
     let mut values = [0.0f64; VALUES];
-    fill(after(line, 2), contour_case.samples, &mut values);
+    let samples = after(line, 2);
+    fill(
+        &mut values,
+        contour_case.samples,
+        |i| f64::from(word(samples, i)),
+    );
     (listed.len() == band_case.room.worded)
         & listed_holds(contour_case, contour, listed, &values)
         & listed_holds(band_case, band, listed, &values)

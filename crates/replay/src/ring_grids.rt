@@ -4,11 +4,11 @@ use crate::cases::{Build, Case, Counts};
 use crate::grids::{PLAIN, case_of, pair_of, put_area, put_record};
 use crate::recorded::both_hold;
 use crate::row_grids::rows_hold;
-use crate::tables::{after, put, put_float, word};
+use crate::tables::{after, fill};
 use crate::text::NUMBERS;
+use lent::{put, word};
 use limits::{LINE, NO_OWNER};
 use scope::Rule;
-use std::num::{wrapping_add_u32, wrapping_add_usize};
 
 // A sample of rows that are a number each, in which sample x counts 2^x.
 fn sample(rows: &[u32], dx: usize, i: usize) -> u32 {
@@ -16,13 +16,6 @@ fn sample(rows: &[u32], dx: usize, i: usize) -> u32 {
         return 0;
     }
     word(rows, i / dx) >> (i % dx % 32) as u32 & 1
-}
-
-// Stores this many samples of rows of dx.
-fn fill_rows(rows: &[u32], dx: usize, count: usize, values: &mut [f64; VALUES]) {
-    for i in 0..count {
-        put_float(values, i, sample(rows, dx, i) as f64);
-    }
 }
 
 // How far the rings of a line have been taken apart: those whose area has come, the words of points that have come, those that are left of the last ring, and
@@ -45,10 +38,9 @@ fn take(
     if taken.is_counted {
         put_area(records, taken.rings, number);
         Taken {
-            rings: wrapping_add_u32(taken.rings, 1),
-            words: taken.words,
-            left: taken.left,
+            rings: taken.rings.wrapping_add(1),
             is_counted: false,
+            ..taken
         }
     } else if taken.left == 0 {
         put_record(
@@ -60,18 +52,16 @@ fn take(
             NO_OWNER,
         );
         Taken {
-            rings: taken.rings,
-            words: taken.words,
-            left: wrapping_add_u32(number, number),
+            left: number.wrapping_add(number),
             is_counted: true,
+            ..taken
         }
     } else {
         put(listed, taken.words as usize, number);
         Taken {
-            rings: taken.rings,
-            words: wrapping_add_u32(taken.words, 1),
+            words: taken.words.wrapping_add(1),
             left: taken.left - 1,
-            is_counted: false,
+            ..taken
         }
     }
 }
@@ -84,9 +74,8 @@ fn take_rings(rings: &[u32], records: &mut [u32; NUMBERS], listed: &mut [u32; NU
         left: 0,
         is_counted: false,
     };
-    for i in 0..rings.len() {
-        let next = take(taken, word(rings, i), records, listed);
-        taken = next;
+    for number in rings {
+        taken = take(taken, *number, records, listed);
     }
     taken
 }
@@ -99,7 +88,7 @@ fn counts_of(set: &[u32]) -> Counts {
         segments,
         peak: word(set, 1),
         rings,
-        points: wrapping_add_u32(segments, rings),
+        points: segments.wrapping_add(rings),
     }
 }
 
@@ -107,7 +96,7 @@ fn counts_of(set: &[u32]) -> Counts {
 fn is_whole(taken: Taken, counts: Counts) -> bool {
     taken.left == 0
         && taken.rings == counts.rings
-        && taken.words == wrapping_add_u32(counts.points, counts.points)
+        && taken.words == counts.points.wrapping_add(counts.points)
 }
 
 // Whether the case holds with these records and points, as a whole and row by row.
@@ -130,7 +119,12 @@ fn rings_hold_at(line: &[u32], threshold: f64, rule: Rule) -> bool {
     let mut listed = [0u32; NUMBERS];
     let taken = take_rings(after(set, 3), &mut records, &mut listed);
     let mut values = [0.0f64; VALUES];
-    fill_rows(after(line, 2), case.dx, case.samples, &mut values);
+    let rows = after(line, 2);
+    fill(
+        &mut values,
+        case.samples,
+        |i| f64::from(sample(rows, case.dx, i)),
+    );
     is_whole(taken, counts) & taken_holds(case, &records, &listed, &values)
 }
 

@@ -1,46 +1,31 @@
 // Calls of the row form on a grid: in turn and out of turn, with a row that is a value short, and with a table withheld; and whether a call is refused as expected
 // and leaves the state as it was.
 use crate::calls::level;
-use crate::cases::{Case, built_code, one_less_if};
-use crate::tables::{SOIL, SOILED, WORDS, floats_front};
+use crate::cases::{Case, one_less_if};
+use crate::tables::{SOIL, SOILED, WORDS, front};
 use cells::rule_number;
+use error::Refusal;
 use rows::{Rows, Step, begin, end, row};
 use scan::ROW_WORDS;
 use scope::Level;
 
-// Stands for a call that is lent every table where else the number of the table that is withheld stands.
-pub const FULL: u32 = 9;
+// The refusals for a table that is short, in the order in which the tables are lent.
+const SHORT: [Refusal; 4] = [
+    Refusal::OpenShort,
+    Refusal::LinksShort,
+    Refusal::PointsShort,
+    Refusal::DirectoryShort,
+];
 
-// A call that was not refused for the table that was withheld, with that table's number.
+// A call that was not refused for the table that was withheld, if one was, with that table's refusal.
 #[derive(Clone, Copy)]
 pub struct Answer {
     pub step: Step,
-    pub withheld: u32,
+    pub withheld: Option<Refusal>,
 }
 
 pub fn call_begin(case: Case) -> Step {
     begin(level(case), case.dx, case.dy)
-}
-
-fn call_row(
-    state: Rows,
-    values: &[f64],
-    lines: &mut [u32],
-    links: &mut [u32],
-    points: &mut [u16],
-    directory: &mut [u32],
-) -> Step {
-    row(state, values, lines, links, points, directory)
-}
-
-fn call_end(
-    state: Rows,
-    lines: &mut [u32],
-    links: &mut [u32],
-    points: &mut [u16],
-    directory: &mut [u32],
-) -> Step {
-    end(state, lines, links, points, directory)
 }
 
 // A row with these values, or the end.
@@ -54,9 +39,9 @@ fn call(
     directory: &mut [u32],
 ) -> Step {
     if is_end {
-        call_end(state, lines, links, points, directory)
+        end(state, lines, links, points, directory)
     } else {
-        call_row(state, values, lines, links, points, directory)
+        row(state, values, lines, links, points, directory)
     }
 }
 
@@ -77,12 +62,12 @@ fn call_bare(state: Rows, is_end: bool, values: &[f64]) -> Step {
     )
 }
 
-// The same, lent every table but for that whose refusal has this number.
+// The same, lent every table but for that for which there is this refusal.
 fn call_without(
     state: Rows,
     is_end: bool,
     values: &[f64],
-    withheld: u32,
+    withheld: Option<Refusal>,
     lines: &mut [u32; WORDS],
     links: &mut [u32; WORDS],
     points: &mut [u16; WORDS],
@@ -91,7 +76,7 @@ fn call_without(
     let mut no_words = [SOIL; 0];
     let mut no_points = [SOILED; 0];
     match withheld {
-        5 => call(
+        Some(Refusal::OpenShort) => call(
             state,
             is_end,
             values,
@@ -100,7 +85,7 @@ fn call_without(
             points,
             directory,
         ),
-        6 => call(
+        Some(Refusal::LinksShort) => call(
             state,
             is_end,
             values,
@@ -109,7 +94,7 @@ fn call_without(
             points,
             directory,
         ),
-        7 => call(
+        Some(Refusal::PointsShort) => call(
             state,
             is_end,
             values,
@@ -118,26 +103,22 @@ fn call_without(
             &mut no_points,
             directory,
         ),
-        8 => call(state, is_end, values, lines, links, points, &mut no_words),
+        Some(Refusal::DirectoryShort) => call(
+            state,
+            is_end,
+            values,
+            lines,
+            links,
+            points,
+            &mut no_words,
+        ),
         _ => call(state, is_end, values, lines, links, points, directory),
     }
 }
 
-// Whether the samples of two rows are the same.
-fn same_samples(one: [u64; ROW_WORDS], other: [u64; ROW_WORDS]) -> bool {
-    for w in 0..ROW_WORDS {
-        if one[w] != other[w] {
-            return false;
-        }
-    }
-    true
-}
-
 // Whether two levels are the same.
 fn same_level(one: Level, other: Level) -> bool {
-    let rule = one.rule;
-    let other_rule = other.rule;
-    (one.threshold == other.threshold) & (rule_number(rule) == rule_number(other_rule))
+    (one.threshold == other.threshold) & (rule_number(one.rule) == rule_number(other.rule))
 }
 
 // Whether two states have the same level and sides and have come equally far.
@@ -158,32 +139,28 @@ fn same_counts(one: Rows, other: Rows) -> bool {
 }
 
 fn same_state(one: Rows, other: Rows) -> bool {
-    let samples = one.above;
-    let others = other.above;
-    same_place(one, other) & same_counts(one, other) & same_samples(samples, others)
+    same_place(one, other) & same_counts(one, other) & (one.above == other.above)
 }
 
-// Whether a call in this state was refused by this number and has left the state as it was.
-fn is_refused(state: Rows, step: Step, code: u32) -> bool {
-    let answer = step.answer;
-    let left = step.state;
-    (built_code(answer, 0) == code) & same_state(state, left)
+// Whether a call in this state was refused so and has left the state as it was.
+fn is_refused(state: Rows, step: Step, refusal: Refusal) -> bool {
+    (step.answer == Err(refusal)) & same_state(state, step.state)
 }
 
 // Whether a row is refused that is a value short of these.
 pub fn short_refused(state: Rows, values: &[f64]) -> bool {
-    let short = floats_front(values, one_less_if(true, values.len()));
-    is_refused(state, call_bare(state, false, short), 13)
+    let short = front(values, one_less_if(true, values.len()));
+    is_refused(state, call_bare(state, false, short), Refusal::BadRow)
 }
 
 // Whether a call is refused that is out of turn: a row with these values, or the end.
 pub fn turn_refused(state: Rows, is_end: bool, values: &[f64]) -> bool {
-    is_refused(state, call_bare(state, is_end, values), 14)
+    is_refused(state, call_bare(state, is_end, values), Refusal::BadTurn)
 }
 
-// Whether a call is tried without the table of this number: without links only as long as none was used, since the words that a call leaves are lent to the next.
-fn is_tried(state: Rows, withheld: u32) -> bool {
-    withheld != 6 || state.fresh == 0
+// Whether a call is tried without the table of this refusal: without links only as long as none was used, since the words that a call leaves are lent to the next.
+fn is_tried(state: Rows, withheld: Refusal) -> bool {
+    withheld != Refusal::LinksShort || state.fresh == 0
 }
 
 // The call, tried without each of the tables, until it is not refused for that.
@@ -196,19 +173,20 @@ pub fn climb(
     points: &mut [u16; WORDS],
     directory: &mut [u32; WORDS],
 ) -> Answer {
-    for withheld in 5..FULL {
-        if is_tried(state, withheld) {
+    for short in &SHORT {
+        let withheld = Some(*short);
+        if is_tried(state, *short) {
             let step = call_without(
                 state, is_end, values, withheld, lines, links, points, directory,
             );
-            if !is_refused(state, step, withheld) {
+            if !is_refused(state, step, *short) {
                 return Answer { step, withheld };
             }
         }
     }
-    let step = call_without(state, is_end, values, FULL, lines, links, points, directory);
+    let step = call_without(state, is_end, values, None, lines, links, points, directory);
     Answer {
         step,
-        withheld: FULL,
+        withheld: None,
     }
 }

@@ -2,12 +2,13 @@
 // call has points and a directory of its own. Before each call others are made that must be refused and leave the state as it was: calls out of turn, a row that
 // is a value short, and the call itself with a table withheld. After the end the words that the calls have used are zero, and the others soil.
 use crate::calls::VALUES;
-use crate::cases::{Case, SPARE, built_code};
-use crate::row_calls::{Answer, FULL, call_begin, climb, short_refused, turn_refused};
-use crate::tables::{SOIL, SOILED, WORDS, after, floats_part, points_hold, put, word, words_hold};
+use crate::cases::{Case, SPARE};
+use crate::row_calls::{Answer, call_begin, climb, short_refused, turn_refused};
+use crate::tables::{SOIL, SOILED, WORDS, after, floats_part, points_hold, words_hold};
+use error::Refusal;
+use lent::{put, word};
 use limits::RECORD_STRIDE;
 use rows::Rows;
-use std::num::{wrapping_add_u32, wrapping_add_usize};
 
 // What the calls so far have come to: the state, how many rings they gave out, and whether they did as expected.
 #[derive(Clone, Copy)]
@@ -19,11 +20,13 @@ struct Run {
 
 // Whether a call may have given out this many rings, and may have used links, without that table: what closes no ring needs neither points nor directory, and what
 // draws nothing no links. A call that was lent every table was refused points and directory before, and so closes a ring.
-fn needs_hold(withheld: u32, rings: u32, fresh: u32) -> bool {
-    if withheld == FULL {
-        return 0 < rings;
+fn needs_hold(withheld: Option<Refusal>, rings: u32, fresh: u32) -> bool {
+    match withheld {
+        None => 0 < rings,
+        Some(Refusal::PointsShort) => rings == 0,
+        Some(Refusal::LinksShort) => rings == 0 && fresh == 0,
+        Some(_) => false,
     }
-    rings == 0 && (withheld == 7 || withheld == 6 && fresh == 0)
 }
 
 // How many points the first rings of a directory have.
@@ -32,12 +35,7 @@ fn points_before(records: &[u32], rings: u32) -> u32 {
         return 0;
     }
     let at = RECORD_STRIDE * ((rings - 1) as usize);
-    wrapping_add_u32(word(records, at), word(records, at + 1))
-}
-
-// How far a number is beyond another, and 0 where it is not, as behind the last ring of a list.
-fn beyond(n: u32, m: u32) -> u32 {
-    if m < n { n - m } else { 0 }
+    word(records, at).wrapping_add(word(records, at + 1))
 }
 
 // Moves the first points of this many rings on by so many points.
@@ -45,7 +43,7 @@ fn move_records(directory: &mut [u32; WORDS], rings: u32, by: u32) {
     for k in 0..rings {
         let at = RECORD_STRIDE * (k as usize);
         let first = word(directory, at);
-        put(directory, at, wrapping_add_u32(first, by));
+        put(directory, at, first.wrapping_add(by));
     }
 }
 
@@ -61,7 +59,7 @@ fn records_hold(directory: &[u32; WORDS], rings: u32, records: &[u32]) -> bool {
     words_hold(directory, words + SPARE, words, records, 0)
 }
 
-// Whether a call has given out these many rings of the list, from this ring on.
+// Whether a call has given out these many rings of the list, from this ring on. Behind the last ring of the list there are no points.
 fn given_hold(
     from: u32,
     rings: u32,
@@ -71,24 +69,22 @@ fn given_hold(
     directory: &mut [u32; WORDS],
 ) -> bool {
     let first = points_before(records, from);
-    let next = points_before(records, wrapping_add_u32(from, rings));
+    let next = points_before(records, from.wrapping_add(rings));
     move_records(directory, rings, first);
-    packed_hold(
-        points,
-        beyond(next, first),
-        after(listed, 2 * (first as usize)),
-    ) & records_hold(
-        directory,
-        rings,
-        after(records, RECORD_STRIDE * (from as usize)),
-    )
+    let count = next.saturating_sub(first);
+    packed_hold(points, count, after(listed, 2 * (first as usize)))
+        & records_hold(
+            directory,
+            rings,
+            after(records, RECORD_STRIDE * (from as usize)),
+        )
 }
 
 // The run after a call that has given out this many rings.
 fn advanced(run: Run, state: Rows, rings: u32, holds: bool) -> Run {
     Run {
         state,
-        rings: wrapping_add_u32(run.rings, rings),
+        rings: run.rings.wrapping_add(rings),
         holds: run.holds & holds,
     }
 }
@@ -102,10 +98,8 @@ fn judged(
     points: &[u16; WORDS],
     directory: &mut [u32; WORDS],
 ) -> Run {
-    let step = answer.step;
-    let built = step.answer;
-    let state = step.state;
-    match built {
+    let state = answer.step.state;
+    match answer.step.answer {
         Err(_) => advanced(run, state, 0, false),
         Ok(rings) => {
             let holds = needs_hold(answer.withheld, rings, state.fresh)
@@ -162,18 +156,16 @@ fn turned(
 
 // The row of dx values that begins with this one.
 fn row_from(values: &[f64; VALUES], from: usize, dx: usize) -> &[f64] {
-    floats_part(values, from, wrapping_add_usize(from, dx))
+    floats_part(values, from, from.wrapping_add(dx))
 }
 
 // The run before the first row.
 fn begun(case: Case) -> Run {
     let step = call_begin(case);
-    let answer = step.answer;
-    let state = step.state;
     Run {
-        state,
+        state: step.state,
         rings: 0,
-        holds: built_code(answer, 0) == 0,
+        holds: step.answer == Ok(0),
     }
 }
 
@@ -192,9 +184,8 @@ fn run_rows(
     let mut from = 0;
     for _ in 0..dy {
         let row = row_from(values, from, dx);
-        let next = turned(run, false, row, records, listed, lines, links);
-        run = next;
-        from = wrapping_add_usize(from, dx);
+        run = turned(run, false, row, records, listed, lines, links);
+        from = from.wrapping_add(dx);
     }
     run
 }
@@ -207,7 +198,7 @@ fn closed_hold(state: Rows, values: &[f64]) -> bool {
 // Whether the words of a work table that were used are zero, and no more than there is room for, and those behind them soil.
 fn spent_hold(table: &[u32; WORDS], room: usize, used: usize) -> bool {
     let none = [0u32; 0];
-    (used <= room) & words_hold(table, wrapping_add_usize(room, SPARE), used, &none, 0)
+    (used <= room) & words_hold(table, room.wrapping_add(SPARE), used, &none, 0)
 }
 
 // Whether the run of a whole grid has given out all rings as expected, takes no call more, and has left the work tables as it should.

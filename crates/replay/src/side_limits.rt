@@ -1,7 +1,8 @@
 // The longest sides that pass, the nearest that do not, numbers of values that do not fit, and lists without the pair that is asked for.
 use crate::calls::{PLACED, VALUES, case_holds, holds};
-use crate::cases::{Build, Case, Counts, Drawing, GENEROUS, List, Room};
+use crate::cases::{Build, Case, Counts, Drawing, Lending, List, Room};
 use crate::grids::sized_case;
+use error::Refusal;
 use limits::RECORD_STRIDE;
 use scope::Rule;
 use smoothing::Placement;
@@ -54,12 +55,8 @@ fn list_of(length: usize, k: usize) -> List {
 // The second pair of a list of three.
 fn second_pair() -> List {
     List {
-        lower: 1.0,
-        upper: 2.0,
-        rule: Rule::AtLeast,
         from: 0,
-        to: 3,
-        k: 1,
+        ..list_of(2, 1)
     }
 }
 
@@ -80,8 +77,15 @@ pub fn longest_passes(build: Build, dx: u32, dy: u32) -> bool {
     case_holds(case, &records, &none, &values)
 }
 
-// Whether all calls refuse these sides and this many values by this number, in tables of no word and of a few.
-fn refused(build: Build, list: List, code: u32, samples: usize, dx: usize, dy: usize) -> bool {
+// Whether all calls refuse these sides and this many values so, in tables of no word and of a few.
+fn refused(
+    build: Build,
+    list: List,
+    refusal: Refusal,
+    samples: usize,
+    dx: usize,
+    dy: usize,
+) -> bool {
     let values = [1.0f64; VALUES];
     let none = [0u32; 0];
     let case = Case {
@@ -94,25 +98,26 @@ fn refused(build: Build, list: List, code: u32, samples: usize, dx: usize, dy: u
         counts: NOTHING,
         room: NO_ROOM,
     };
-    holds(case, 0, code, &none, &none, &values) & holds(case, GENEROUS, code, &none, &none, &values)
-}
-
-// Whether these sides and this many values are refused by this number, also with a list that has no pair.
-pub fn grid_refused(build: Build, code: u32, samples: usize, dx: usize, dy: usize) -> bool {
-    refused(build, list_of(2, 0), code, samples, dx, dy)
-        & refused(build, list_of(0, 0), code, samples, dx, dy)
-}
-
-// Whether a list of this many thresholds is refused by this number, by all pairs from the first that it has not.
-pub fn list_refused(code: u32, length: usize, k: usize) -> bool {
-    refused(Build::Band, list_of(length, k), code, 1, 1, 1)
-        & refused(Build::Band, list_of(length, 1), code, 1, 1, 1)
-        & refused(
-            Build::Band,
-            list_of(length, 18446744073709551615),
-            code,
-            1,
-            1,
-            1,
+    holds(case, Lending::Exact, Some(refusal), &none, &none, &values)
+        & holds(
+            case,
+            Lending::Generous,
+            Some(refusal),
+            &none,
+            &none,
+            &values,
         )
+}
+
+// Whether these sides and this many values are refused so, also with a list that has no pair.
+pub fn grid_refused(build: Build, refusal: Refusal, samples: usize, dx: usize, dy: usize) -> bool {
+    refused(build, list_of(2, 0), refusal, samples, dx, dy)
+        & refused(build, list_of(0, 0), refusal, samples, dx, dy)
+}
+
+// Whether a list of this many thresholds is refused so, by all pairs from the first that it has not.
+pub fn list_refused(refusal: Refusal, length: usize, k: usize) -> bool {
+    refused(Build::Band, list_of(length, k), refusal, 1, 1, 1)
+        & refused(Build::Band, list_of(length, 1), refusal, 1, 1, 1)
+        & refused(Build::Band, list_of(length, usize::MAX), refusal, 1, 1, 1)
 }

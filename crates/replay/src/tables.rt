@@ -2,6 +2,8 @@
 // and where a table is shorter than a part that is asked for, the whole table is handed out.
 ghost use Rattle.std.specs.Prelude.{◌<◌};
 
+use lent::{put, value_or, word};
+
 // The words of a table: enough for a grid of the longest side all above, in generous room.
 pub const WORDS: usize = 16394;
 
@@ -20,52 +22,12 @@ const INFINITE: u64 = 9218868437227405312;
 // The pattern that stands for every NaN's.
 const NAN: u64 = 9221120237041090560;
 
-// A word of a table.
-pub fn word(table: &[u32], i: usize) -> u32 {
-    word_or(table, i, 0)
-}
-
-// A word of a table, or another past the end.
-fn word_or(table: &[u32], i: usize, otherwise: u32) -> u32 {
-    if i < table.len() { table[i] } else { otherwise }
-}
-
-fn widened(x: u16) -> u32 {
-    x as u32
-}
-
-// A coordinate of the points.
-fn coordinate(points: &[u16], i: usize) -> u32 {
-    if i < points.len() {
-        widened(points[i])
-    } else {
-        0
-    }
-}
-
-// A float of a table.
-fn float(values: &[f64], i: usize) -> f64 {
-    if i < values.len() { values[i] } else { 0.0 }
-}
-
-// Stores a word of a table. Past the end nothing is stored.
-pub fn put(table: &mut [u32], i: usize, value: u32) {
-    if i < table.len() {
-        table[i] = value;
-    }
-}
-
-// Stores the low half of a word as a coordinate. Past the end nothing is stored.
-pub fn put_point(points: &mut [u16], i: usize, value: u32) {
-    if i < points.len() {
-        points[i] = (value % 65536) as u16;
-    }
-}
-
-// Stores a float. Past the end nothing is stored.
-pub fn put_float(values: &mut [f64], i: usize, value: f64) {
-    if i < values.len() {
-        values[i] = value;
+// Stores this many values, each as it is given for its number. Past the end nothing is stored.
+pub fn fill<T: Copy, F: Fn(usize) -> T>(table: &mut [T], count: usize, value: F)
+    requires { F.IsAlwaysCallable value }
+{
+    for i in 0..count {
+        put(table, i, value(i));
     }
 }
 
@@ -73,7 +35,7 @@ pub fn put_float(values: &mut [f64], i: usize, value: f64) {
 fn piece(table: &[u32], i: usize) -> u64
     ensures { result < 65536 }
 {
-    (word(table, i) % 65536) as u64
+    u64::from(word(table, i) % 65536)
 }
 
 // The float whose pattern a table begins with: four parts of 16 bits, the highest first.
@@ -86,7 +48,7 @@ pub fn listed_float(table: &[u32]) -> f64 {
 // The float of a pattern. All patterns of NaN give one NaN.
 fn float_of(pattern: u64) -> f64 {
     if INFINITE < pattern % SIGN {
-        0.0 / 0.0
+        f64::NAN
     } else {
         f64::from_bits(pattern)
     }
@@ -94,81 +56,34 @@ fn float_of(pattern: u64) -> f64 {
 
 // The pattern of a float. All NaNs have one.
 fn pattern_of(x: f64) -> u64 {
-    if x == x { f64::to_bits(x) } else { NAN }
+    if x.is_nan() { NAN } else { x.to_bits() }
 }
 
 // A table from word n on.
 pub fn after(table: &[u32], n: usize) -> &[u32] {
-    if n <= table.len() { &table[n..] } else { table }
+    table.get(n..).unwrap_or(table)
 }
 
-// The first n words of a table.
-pub fn front(table: &[u32], n: usize) -> &[u32] {
-    if n <= table.len() {
-        &table[0..n]
-    } else {
-        table
-    }
-}
-
-// The first n words of the points.
-pub fn points_front(points: &[u16], n: usize) -> &[u16] {
-    if n <= points.len() {
-        &points[0..n]
-    } else {
-        points
-    }
-}
-
-// The first n floats.
-pub fn floats_front(values: &[f64], n: usize) -> &[f64] {
-    if n <= values.len() {
-        &values[0..n]
-    } else {
-        values
-    }
+// The first n items of a table.
+pub fn front<T>(table: &[T], n: usize) -> &[T] {
+    table.get(..n).unwrap_or(table)
 }
 
 // The floats from number `from` to before number `to`.
 pub fn floats_part(values: &[f64], from: usize, to: usize) -> &[f64] {
-    if from <= values.len() && from <= to && to <= values.len() {
-        &values[from..to]
-    } else {
-        values
-    }
+    values.get(from..to).unwrap_or(values)
 }
 
-// The first n words of a table, to be lent.
-pub fn lent(table: &mut [u32], n: usize) -> &mut [u32] {
-    if n <= table.len() {
-        &mut table[0..n]
-    } else {
-        table
-    }
-}
-
-// The first n words of the points, to be lent.
-pub fn points_lent(points: &mut [u16], n: usize) -> &mut [u16] {
-    if n <= points.len() {
-        &mut points[0..n]
-    } else {
-        points
-    }
-}
-
-// The first n floats, to be lent.
-pub fn floats_lent(values: &mut [f64], n: usize) -> &mut [f64] {
-    if n <= values.len() {
-        &mut values[0..n]
-    } else {
-        values
-    }
+// The first n items of a table, to be lent.
+pub fn front_mut<T>(table: &mut [T], n: usize) -> &mut [T] {
+    let end = n.min(table.len());
+    &mut table[..end]
 }
 
 // Whether a word with this number is as wanted: below `written` the listed one, or another where none is listed, and soil from there on.
 fn is_wanted(x: u32, i: usize, written: usize, wanted: &[u32], otherwise: u32) -> bool {
     if i < written {
-        x == word_or(wanted, i, otherwise)
+        x == value_or(wanted, i, otherwise)
     } else {
         x == SOIL
     }
@@ -193,23 +108,15 @@ pub fn words_hold(
     wanted: &[u32],
     otherwise: u32,
 ) -> bool {
-    for i in 0..lent {
-        if !is_wanted(word(table, i), i, written, wanted, otherwise) {
-            return false;
-        }
-    }
-    true
+    (0..lent).all(|i| is_wanted(word(table, i), i, written, wanted, otherwise))
 }
 
 // The same of points. Those that are not listed are not looked at.
 pub fn points_hold(points: &[u16; WORDS], lent: usize, written: usize, wanted: &[u32]) -> bool {
-    for i in 0..lent {
-        let x = coordinate(points, i);
-        if !is_wanted(x, i, written, wanted, x) {
-            return false;
-        }
-    }
-    true
+    (0..lent).all(|i| {
+        let x = u32::from(value_or(points, i, 0));
+        is_wanted(x, i, written, wanted, x)
+    })
 }
 
 // The same of floats, all one float where no more are listed.
@@ -222,11 +129,10 @@ pub fn floats_hold(
 ) -> bool {
     let mut rest = wanted;
     for i in 0..lent {
-        if !is_float_wanted(float(values, i), i, written, rest, otherwise) {
+        if !is_float_wanted(value_or(values, i, 0.0), i, written, rest, otherwise) {
             return false;
         }
-        let next = after(rest, 4);
-        rest = next;
+        rest = after(rest, 4);
     }
     true
 }

@@ -1,6 +1,5 @@
 // Standard input as numbers, a line at a time. Only digits, spaces and ends of lines are expected; a number of more than eight digits loses its front.
-use crate::tables::put;
-use std::num::wrapping_add_usize;
+use lent::{put, value_or};
 
 // How much text is read, and how many numbers a line may have.
 pub const TEXT: usize = 2097152;
@@ -14,17 +13,9 @@ pub struct Line {
     pub next: usize,
 }
 
-fn byte(text: &[u8], i: usize) -> u8 {
-    if i < text.len() { text[i] } else { 0 }
-}
-
-fn is_digit(b: u8) -> bool {
-    48 <= b && b <= 57
-}
-
 // A number with one more digit.
 fn appended(value: u32, digit: u8) -> u32 {
-    value % 10000000 * 10 + (digit % 16) as u32
+    value % 10000000 * 10 + u32::from(digit % 16)
 }
 
 // What a number stands for: itself, and 99999999 for the owner of a ring that has none.
@@ -37,18 +28,18 @@ pub fn read_line(text: &[u8; TEXT], from: usize, numbers: &mut [u32; NUMBERS]) -
     let mut count: usize = 0;
     let mut value: u32 = 0;
     for i in from..TEXT {
-        let b = byte(text, i);
-        if is_digit(b) {
+        let b = value_or(text, i, 0);
+        if b.is_ascii_digit() {
             value = appended(value, b);
         } else {
             put(numbers, count, meant(value));
-            count = wrapping_add_usize(count, 1);
+            count = count.wrapping_add(1);
             value = 0;
         }
         if b == 10 {
             return Line {
                 count,
-                next: wrapping_add_usize(i, 1),
+                next: i.wrapping_add(1),
             };
         }
     }

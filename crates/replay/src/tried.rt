@@ -28,20 +28,7 @@ pub struct Tried {
 
 // Whether a record is as it was before the build.
 pub fn is_soiled(record: RingRecord) -> bool {
-    let fate = record.fate;
-    record.first == SOILED.first
-        && record.count == SOILED.count
-        && is_soiled_fate(fate)
-        && record.area == SOILED.area
-}
-
-fn is_soiled_fate(fate: Fate) -> bool {
-    match fate {
-        Fate::Polygon => false,
-        Fate::Hole(owner) => owner == 4294967295,
-        Fate::Dropped => false,
-        Fate::Line => false,
-    }
+    record == SOILED
 }
 
 // The bare rings.

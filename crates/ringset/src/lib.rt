@@ -14,6 +14,7 @@ use measuring::measure;
 pub use set::RingSet;
 
 // A directory record. Its last two words are the ring's area in two's complement.
+// Kept: words for class and owner, since a record is six words of a lent table, and faulty ones are read too.
 #[derive(Clone, Copy)]
 pub struct Record {
     pub first: u32,

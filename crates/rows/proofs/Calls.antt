@@ -4,6 +4,7 @@ use mathlib.Core.Path.{◌≡◌, refl, sym, ◌∙◌, ap}
 use mathlib.Core.Bool.{Bool, true, false, not, cond, ◌||◌}
 use mathlib.Core.List.{List, [], ◌∷◌}
 use Prim.Native.Nat.{ℕ, ◌+◌, ◌/◌, ◌<◌, ◌≤◌, max}
+use native.Mathlib.Omega.{arith}
 use lib.Dec.{eqb, ltb}
 use lib.Ieee.{Float}
 use lib.ListN.{length, replicate}
@@ -24,7 +25,7 @@ use Rattle.giving.specs.Values.{given_of}
 use Rattle.rows.specs.Called.{Outcome, row_words, trial_before, tried, lines_tried, answer_by, filed, played, state_after, taken, refused_by, lines_restored, settled, advanced, row_called, zeroed_by, end_called}
 use Rattle.rows.specs.declared.Rows.{Rows}
 use Rattle.rows.proofs.Samples.{no-words}
-use Rattle.std.specs.Prelude.{Result, Ok, Err}
+use Rattle.std.specs.Prelude.{Result, Ok, Err, is_ok}
 
 -- ---- the trial
 
@@ -182,6 +183,27 @@ module _ (s : Rows) (values : List Float) (lines links points directory : List �
 
 -- ---- the end
 
+-- the tables are zeroed where the row of cells was taken, and else they are spared
+module _ (o : Outcome) where
+  spared : (answer : Result ℕ Refusal) → is_ok answer ≡ false → o ≡ zeroed_by o answer
+  unfolding zeroed_by
+  spared (Err why) is = refl
+  spared (Ok n) is = absurd (let z : ◌≡◌ {A = ℕ} 0 1 = cc in omega arith)
+
+  zeroed : (answer : Result ℕ Refusal) → is_ok answer ≡ true
+      → ◌≡◌ {A = Outcome} (record {
+        state = o.state;
+        answer = o.answer;
+        lines = cleared o.lines (open_words o.state.dx o.state.peak);
+        links = cleared o.links (link_words o.state.fresh);
+        points = o.points;
+        directory = o.directory;
+      })
+      (zeroed_by o answer)
+  unfolding zeroed_by
+  zeroed (Ok n) is = refl
+  zeroed (Err why) is = absurd (let z : ◌≡◌ {A = ℕ} 0 1 = cc in omega arith)
+
 module _ (s : Rows) (lines links points directory : List ℕ) where
   pub end-turn-refused : bad_side s.dx s.dy || not (eqb s.drawn s.dy) ≡ true
       → refused_by s lines links points directory BadTurn ≡ end_called s lines links points directory
@@ -195,13 +217,11 @@ module _ (s : Rows) (lines links points directory : List ℕ) where
         rw good
         (ap (λ (k : Outcome). zeroed_by k k.answer) (advances ∙ ap (λ (lower : List ℕ). advanced s lower lines links points directory) no-words))
 
-    pub end_refused : (why : Refusal) → o.answer ≡ Err why → o ≡ end_called s lines links points directory
-    unfolding zeroed_by
-    end_refused why is = ap (zeroed_by o) (sym is) ∙ ends
+    pub end_refused : is_ok o.answer ≡ false → o ≡ end_called s lines links points directory
+    end_refused is = spared o o.answer is ∙ ends
 
-    pub end-zeroes : (n : ℕ) → o.answer ≡ Ok n → (lines' links' : List ℕ)
+    pub end-zeroes : is_ok o.answer ≡ true → (lines' links' : List ℕ)
         → lines' ≡ cleared o.lines (open_words o.state.dx o.state.peak) → links' ≡ cleared o.links (link_words o.state.fresh)
         → ◌≡◌ {A = Outcome} (record { state = o.state; answer = o.answer; lines = lines'; links = links'; points = o.points; directory = o.directory })
         (end_called s lines links points directory)
-    unfolding zeroed_by
-    end-zeroes n is lines' links' lines_are links-are = rw (lines_are, links-are) (ap (zeroed_by o) (sym is) ∙ ends)
+    end-zeroes is lines' links' lines_are links-are = rw (lines_are, links-are) (zeroed o o.answer is ∙ ends)

@@ -1,10 +1,10 @@
 -- The tests of a terrain's sides, and the state before the first row. By the tests of the definitions. Assumes nothing.
 use mathlib.Core.Path.{◌≡◌, refl, sym, ◌∙◌, ap}
 use mathlib.Core.Bool.{Bool, true, false, not, ◌||◌, ◌&&◌}
-use Prim.Native.Nat.{ℕ, ◌≤◌}
+use Prim.Native.Nat.{ℕ, zero, suc, ◌≤◌}
 use lib.Dec.{eqb, ltb, leb}
 use native.Mathlib.Omega.{arith}
-use borrow.Author.Tests.{ltb-true, ltb-false, eqb-true, le-leb, lt-leb, not-false}
+use borrow.Author.Tests.{lt-ltb, ne_eqb, ltb-true, ltb-false, eqb-true, le-leb, lt-leb, not-false}
 use Rattle.error.specs.declared.Refusal.TheVariants.{BadSide}
 use Rattle.scope.specs.Limits.{side_limit}
 use Rattle.laws.proofs.Tests.{neither}
@@ -23,7 +23,12 @@ not-above m n = by (ltb n m) refl
     by true e = lt-leb m n (ltb-true n m e) ∙ sym (ap not e)
     by false e = le-leb m n (ltb-false n m e) ∙ sym (ap not e)
 
-none_of : (a b c d : Bool) → not a && not b && not c && not d ≡ not (a || b || c || d)
+-- above zero is not zero
+not-none : (n : ℕ) → ltb 0 n ≡ not (eqb n 0)
+not-none zero = refl
+not-none (suc n) = lt-ltb 0 (suc n) (omega arith) ∙ sym (ap not (ne_eqb (suc n) 0 (λ e. omega arith)))
+
+none_of : (a b c d : Bool) → (not a && not b) && (not c && not d) ≡ not (a || b || c || d)
 none_of true b c d = refl
 none_of false true c d = refl
 none_of false false true d = refl
@@ -34,11 +39,11 @@ twice true = refl
 twice false = refl
 
 module _ (dx dy : ℕ) where
-  -- the four tests of the code are the definition's
-  pub sides-tested : not (eqb dx 0) && leb dx side_limit && not (eqb dy 0) && leb dy side_limit ≡ not (bad_side dx dy)
+  -- the tests of both sides are the definition's
+  pub sides-tested : (ltb 0 dx && leb dx side_limit) && (ltb 0 dy && leb dy side_limit) ≡ not (bad_side dx dy)
   unfolding bad_side
   sides-tested =
-      rw (not-above dx side_limit, not-above dy side_limit)
+      rw (not-none dx, not-none dy, not-above dx side_limit, not-above dy side_limit)
       (none_of (eqb dx 0) (ltb side_limit dx) (eqb dy 0) (ltb side_limit dy))
 
   -- sides that are not refused are within the limit

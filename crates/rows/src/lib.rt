@@ -3,7 +3,7 @@
 // over the frontier's words before it changes anything else, so that it is taken whole or refused whole.
 #![tactic(auto)]
 
-ghost use Rattle.std.specs.Prelude.{◌≡◌, not, ◌≤◌, max, length};
+ghost use Rattle.std.specs.Prelude.{◌≡◌, not, ◌&&◌, ltb, leb, ◌≤◌, length};
 ghost use Rattle.scope.specs.Limits.{side_limit};
 ghost use Rattle.grid.specs.Grid.{Sized, bad_side};
 ghost use Rattle.rows.specs.Called.{row_words, no_words, blank, begun_state, begun_answer, tried, lines_tried, answer_by, lines_restored, taken, advanced, row_called, end_called};
@@ -37,17 +37,26 @@ pub struct Rows {
 }
 
 // The state after a call, and what the call answers: how many rings it has given out, or why it was refused, which leaves the state as it was.
+// Kept: a struct and no `Result` of the state, since a refused call promises which state it leaves.
 #[derive(Clone, Copy)]
 pub struct Step {
     pub state: Rows,
     pub answer: Result<u32, Refusal>,
 }
 
+// Whether a side is within the limit.
+#[tactic(auto, unfolding(scope::specs::Limits::side_limit))]
+fn side_fits(side: usize) -> bool
+    ensures { result ≡ ltb 0 side && leb side side_limit }
+{
+    (1..=SIDE_LIMIT).contains(&side)
+}
+
 // Whether both sides are within the limit.
 fn sides_fit(dx: usize, dy: usize) -> bool
     ensures { result ≡ not (bad_side dx dy) }
 {
-    (dx != 0) & (dx <= SIDE_LIMIT) & (dy != 0) & (dy <= SIDE_LIMIT)
+    side_fits(dx) & side_fits(dy)
 }
 
 // A state before the first row.
@@ -73,26 +82,27 @@ pub fn begin(level: Level, dx: usize, dy: usize) -> Step
     ensures { result ≡ record { state = begun_state level dx dy; answer = begun_answer dx dy } }
 {
     if sides_fit(dx, dy) {
-        let state = blank(level, dx as u32, dy as u32);
-        let answer = Ok(0);
-        return Step { state, answer };
+        return Step {
+            state: blank(level, dx as u32, dy as u32),
+            answer: Ok(0),
+        };
     }
-    let state = blank(level, 0, 0);
-    let answer = Err(Refusal::BadSide);
-    Step { state, answer }
+    Step {
+        state: blank(level, 0, 0),
+        answer: Err(Refusal::BadSide),
+    }
 }
 
 // The samples of a row of values as words.
+#[tactic(auto, unfolding(scope::specs::Limits::side_limit))]
 fn sample_words(values: &[f64], level: Level, dx: usize, row: &mut [u64; ROW_WORDS])
     requires sized { Sized (length values.now) dx 1 }
     requires row_value { row.old ≡ no_words }
     ensures { row.new ≡ row_words level values.now dx }
 {
     let grid = Grid { values, dx, dy: 1 };
-    let mut w = 0;
-    while SAMPLES * w <= dx {
+    for w in 0..dx / SAMPLES + 1 {
         row[w] = lower_word(grid, level, 0, SAMPLES * w);
-        w += 1;
     }
 }
 
@@ -118,6 +128,7 @@ fn trial_of(state: Rows, lower: &[u64; ROW_WORDS], lines: &mut [u32]) -> Trial
 }
 
 // The answer to a row of cells that comes to this, lent that many words and records.
+#[tactic(auto, unfolding(crate::specs::Called::answer_by))]
 fn answer_of(
     trial: Trial,
     dx: usize,
@@ -145,6 +156,7 @@ fn answer_of(
 }
 
 // The frontier behind a trial that was refused: noted anew, but for the first row, which was not tried over it.
+#[tactic(auto, unfolding(crate::specs::Called::lines_restored))]
 fn restore(lines: &mut [u32], links: &[u32], dx: u32, drawn: u32, count: u32)
     requires { dx ≤ side_limit }
     ensures { lines.new ≡ lines_restored dx drawn count links.now lines.old }
@@ -154,14 +166,8 @@ fn restore(lines: &mut [u32], links: &[u32], dx: u32, drawn: u32, count: u32)
     }
 }
 
-// The larger of two numbers.
-fn larger(n: u32, m: u32) -> u32
-    ensures { result ≡ max n m }
-{
-    if n < m { m } else { n }
-}
-
 // A row of cells, whose lower samples these are, drawn. Its trial has come to this peak and to that many rings.
+#[tactic(auto, unfolding(scope::specs::Limits::side_limit))]
 fn draw(
     state: Rows,
     lower: &[u64; ROW_WORDS],
@@ -198,24 +204,19 @@ fn draw(
         start,
     );
     note_lines(lines, links, dx, play.count);
-    let drawn = state.drawn + 1;
-    let most = larger(state.peak, peak);
     let next = Rows {
-        level: state.level,
-        dx,
-        dy: state.dy,
-        drawn,
+        drawn: state.drawn + 1,
         count: play.count,
-        peak: most,
+        peak: state.peak.max(peak),
         spare: play.spare,
         fresh: play.fresh,
         held: play.held,
         above: *lower,
+        ..state
     };
-    let answer = Ok(rings);
     Step {
         state: next,
-        answer,
+        answer: Ok(rings),
     }
 }
 
@@ -235,8 +236,10 @@ fn advance(
     let dx = state.dx;
     let room = lines.len();
     if room < open_words(dx as usize, state.count) {
-        let answer = Err(Refusal::OpenShort);
-        return Step { state, answer };
+        return Step {
+            state,
+            answer: Err(Refusal::OpenShort),
+        };
     }
     let trial = trial_of(state, lower, lines);
     let records = directory.len() / RECORD_STRIDE;
@@ -263,12 +266,16 @@ pub fn row(
         ≡ row_called state values.now lines.old links.old points.old directory.old }
 {
     if values.len() != state.dx as usize {
-        let answer = Err(Refusal::BadRow);
-        return Step { state, answer };
+        return Step {
+            state,
+            answer: Err(Refusal::BadRow),
+        };
     }
     if !sides_fit(state.dx as usize, state.dy as usize) | (state.dy <= state.drawn) {
-        let answer = Err(Refusal::BadTurn);
-        return Step { state, answer };
+        return Step {
+            state,
+            answer: Err(Refusal::BadTurn),
+        };
     }
     let mut lower = [0u64; ROW_WORDS];
     sample_words(values, state.level, state.dx as usize, &mut lower);
@@ -288,13 +295,14 @@ pub fn end(
         ≡ end_called state lines.old links.old points.old directory.old }
 {
     if !sides_fit(state.dx as usize, state.dy as usize) | (state.drawn != state.dy) {
-        let answer = Err(Refusal::BadTurn);
-        return Step { state, answer };
+        return Step {
+            state,
+            answer: Err(Refusal::BadTurn),
+        };
     }
     let lower = [0u64; ROW_WORDS];
     let step = advance(state, &lower, lines, links, points, directory);
-    let answer = step.answer;
-    if let Ok(_) = answer {
+    if step.answer.is_ok() {
         clear(lines, open_words(step.state.dx as usize, step.state.peak));
         clear(links, link_words(step.state.fresh));
     }

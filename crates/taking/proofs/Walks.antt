@@ -12,7 +12,8 @@ use Rattle.scope.specs.Area.{last_of}
 use Rattle.scope.specs.Containment.{Answer, outside, boundary, inside, on_pair, flips, signed, walk, point_against, decide, ring_against}
 use Rattle.scope.specs.Stitching.{Line}
 use Rattle.extents.specs.Points.{point_in, ring_in}
-use Rattle.taking.specs.Places.{place_of, walk_to, beside}
+use Rattle.area.specs.Answers.{place_of}
+use Rattle.taking.specs.Places.{walk_to, beside}
 use Rattle.taking.proofs.Rows.{passed_over}
 
 -- a sign that is not flipped stays

@@ -5,12 +5,13 @@ ghost use Rattle.std.specs.Prelude.{◌≡◌, ◌+◌, ◌*◌, ◌≤◌, leng
 ghost use Rattle.scope.specs.Containment.{signed, point_against};
 ghost use Rattle.scope.specs.Contour.{takes};
 ghost use Rattle.area.specs.Points.{meant};
+ghost use Rattle.area.specs.Answers.{place_of};
 ghost use Rattle.extents.specs.Points.{ring_in, RingThere};
 ghost use Rattle.extents.specs.Ladders.{Raised, Chunked};
-ghost use Rattle.taking.specs.Places.{place_of, walk_to, beside};
+ghost use Rattle.taking.specs.Places.{walk_to, beside};
 ghost use Rattle.taking.specs.Stretches.{StretchThere, PassedOver, first_items, StopsAt};
 
-use area::{Point, flips, on_pair, point_at};
+use area::{Containment, Point, flips, on_pair, point_at};
 use extents::{Extent, Ladder, Span, next_near};
 
 // The points of all rings in packed order, and a ladder over them in a table.
@@ -22,17 +23,6 @@ struct Packed<'a> {
     ghost chunked: { Chunked points.now table.now chunks },
 }
 
-// Where a point lies to a ring, or to some of its pairs.
-#[derive(Clone, Copy)]
-pub enum Place {
-    // on no pair, and inside by the sign
-    Inside,
-    // on a pair
-    Boundary,
-    // on no pair, and outside by the sign
-    Outside,
-}
-
 // Whether both rows lie before the row y, or both after it.
 #[tactic(auto, unfolding(crate::specs::Places::beside))]
 fn beside(ay: u16, by: u16, y: u16) -> bool
@@ -42,20 +32,20 @@ fn beside(ay: u16, by: u16, y: u16) -> bool
 }
 
 // Where a point on no pair lies, by the sign.
-#[tactic(auto, unfolding(crate::specs::Places::place_of, scope::specs::Containment::signed))]
-fn by_sign(within: bool) -> Place
+#[tactic(auto, unfolding(area::specs::Answers::place_of, scope::specs::Containment::signed))]
+fn by_sign(within: bool) -> Containment
     ensures { result ≡ place_of (signed within) }
 {
     if within {
-        Place::Inside
+        Containment::Inside
     } else {
-        Place::Outside
+        Containment::Outside
     }
 }
 
-// The point p against the pairs of neighbours from the point of number `from` to that of number `to`, with the sign `inside` so far. A pair beside the point's
-// row is passed over.
-pub fn along(points: &[u16], from: usize, to: usize, p: Point, inside: bool) -> Place
+// The point p against the pairs of neighbours from the point of number `from` to that of number `to`, with the sign `inside` so far: `Boundary` where it is on a
+// pair, and else inside or outside by the sign. A pair beside the point's row is passed over.
+pub fn along(points: &[u16], from: usize, to: usize, p: Point, inside: bool) -> Containment
     requires { (from ≤ to) × (2 * to + 2 ≤ length points.now) }
     ensures { result ≡ place_of (walk_to points.now from to (meant p) inside) }
 {
@@ -67,7 +57,7 @@ pub fn along(points: &[u16], from: usize, to: usize, p: Point, inside: bool) -> 
             continue;
         }
         if on_pair(a, b, p) {
-            return Place::Boundary;
+            return Containment::Boundary;
         }
         within = flips(a, b, p) != within;
     }
@@ -120,7 +110,7 @@ fn stop_after(k: usize, last: usize) -> usize
 
 impl Packed<'_> {
     // As `along`, where the ladder passes over the chunks that are apart from what lies right of the point in its row.
-    fn along_near(&self, from: usize, last: usize, p: Point, inside: bool) -> Place
+    fn along_near(&self, from: usize, last: usize, p: Point, inside: bool) -> Containment
         requires { StretchThere self.now.points.now from last }
         ensures { result ≡ place_of (walk_to self.now.points.now from last (meant p) inside) }
     {
@@ -133,16 +123,16 @@ impl Packed<'_> {
             k = stop_after(near, last);
             let place = along(self.points, near, k, p, within);
             match place {
-                Place::Boundary => return Place::Boundary,
-                Place::Inside => within = true,
-                Place::Outside => within = false,
+                Containment::Boundary => return Containment::Boundary,
+                Containment::Inside => within = true,
+                Containment::Outside => within = false,
             }
         }
         by_sign(within)
     }
 
     // The point p against a ring. A ring of few points is walked straight.
-    fn against(&self, ring: Span, p: Point) -> Place
+    fn against(&self, ring: Span, p: Point) -> Containment
         requires { RingThere self.now.points.now ring.first ring.count }
         ensures { result ≡ place_of (point_against (ring_in self.now.points.now ring.first ring.count) (meant p)) }
     {
@@ -151,7 +141,7 @@ impl Packed<'_> {
         let a = point_at(self.points, last);
         let b = point_at(self.points, first);
         if on_pair(a, b, p) {
-            return Place::Boundary;
+            return Containment::Boundary;
         }
         let inside = flips(a, b, p);
         if count <= 64 {
@@ -175,9 +165,9 @@ pub fn takes(points: &[u16], outer: Span, tested: Span, table: &[u32], chunks: L
         let p = point_at(points, v);
         let place = packed.against(outer, p);
         match place {
-            Place::Boundary => continue,
-            Place::Inside => return true,
-            Place::Outside => return false,
+            Containment::Boundary => continue,
+            Containment::Inside => return true,
+            Containment::Outside => return false,
         }
     }
     true

@@ -12,6 +12,7 @@ use limits::{HOLE, NO_OWNER, POLYGON};
 use smoothing::{Coordinate, VertexMoves};
 
 // The number of a vertex where none decides.
+// Kept: numbers, here and in what follows, since C is told no enum.
 const NO_VERTEX: u32 = 4294967295;
 
 // The vertex that decides.

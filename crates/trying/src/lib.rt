@@ -15,10 +15,9 @@ ghost use Rattle.trying.specs.Values.{tried_of};
 use cells::{Stroke, stroke_at};
 use drawing::{first_stroke, meets, word_at};
 use lent::{put, word};
-use lines::tables::{column_word, link_point, slot_at, word_of};
+use lines::tables::{column_word, link_point, slot_at};
 use packing::clear;
 use scan::ROW_WORDS;
-use sweep::row_word;
 use words::{Pane, SAMPLES, bit_at, changes_in, number_in, pane_of, set_bits};
 
 // What a trial has counted: the open lines and the most after any cell, the segments in no closed ring and the most after any cell, and the rings that closed
@@ -75,24 +74,26 @@ fn note(words: &mut [u32], start: u32, end: u32, size: u32)
 }
 
 // The counts with a segment more in an open line.
+#[tactic(auto, unfolding(machine::specs::Machine::word_of))]
 fn with_segment(t: Trial) -> Trial
     ensures { result ≡ grown t }
 {
     Trial {
-        held: word_of(t.held as u64 + 1),
+        held: t.held.wrapping_add(1),
         ..t
     }
 }
 
 // The counts with a ring that closes a line of that many links.
+#[tactic(auto, unfolding(machine::specs::Machine::word_of))]
 fn with_ring(t: Trial, size: u32) -> Trial
     ensures { result ≡ ringed t size }
 {
     Trial {
         lines: t.lines.saturating_sub(1),
         held: t.held.saturating_sub(size),
-        rings: word_of(t.rings as u64 + 1),
-        points: word_of(t.points as u64 + size as u64 + 2),
+        rings: t.rings.wrapping_add(1),
+        points: t.points.wrapping_add(size).wrapping_add(2),
         ..t
     }
 }
@@ -109,13 +110,14 @@ fn after_cell(t: Trial) -> Trial
 }
 
 // A new line from word `s` to word `e`.
+#[tactic(auto, unfolding(machine::specs::Machine::word_of))]
 fn try_open(words: &mut [u32], t: Trial, s: u32, e: u32) -> Trial
     ensures { tried_of words.new result ≡ open_tried (tried_of words.old t) s e }
 {
     note(words, s, e, 1);
     Trial {
-        lines: word_of(t.lines as u64 + 1),
-        held: word_of(t.held as u64 + 1),
+        lines: t.lines.wrapping_add(1),
+        held: t.held.wrapping_add(1),
         ..t
     }
 }
@@ -141,6 +143,7 @@ fn try_start(words: &mut [u32], t: Trial, s: u32, e: u32) -> Trial
 }
 
 // The line that ends at word `s` meets the one that starts at word `e`: one line closes, and two are joined.
+#[tactic(auto, unfolding(machine::specs::Machine::word_of))]
 fn try_meet(words: &mut [u32], t: Trial, s: u32, e: u32) -> Trial
     ensures { tried_of words.new result ≡ meet_tried (tried_of words.old t) s e }
 {
@@ -154,7 +157,7 @@ fn try_meet(words: &mut [u32], t: Trial, s: u32, e: u32) -> Trial
     note(words, start, end, size);
     Trial {
         lines: t.lines.saturating_sub(1),
-        held: word_of(t.held as u64 + 1),
+        held: t.held.wrapping_add(1),
         ..t
     }
 }
@@ -237,6 +240,8 @@ fn try_changes(
 }
 
 // The cells between two rows of samples, of `dx` columns, tried over the frontier's words.
+// Kept: `give_row` of `giving` has this loop too; one walk for both needs a trait for the step, with a struct of each one's tables and laws, and is no plainer.
+#[tactic(auto, unfolding(scope::specs::Limits::side_limit))]
 pub fn try_row(
     upper: &[u64; ROW_WORDS],
     lower: &[u64; ROW_WORDS],
@@ -251,8 +256,8 @@ pub fn try_row(
     let mut upper_left = false;
     let mut lower_left = false;
     for w in 0..dx as usize / SAMPLES + 1 {
-        let upper_word = row_word(upper, w);
-        let lower_word = row_word(lower, w);
+        let upper_word = upper[w];
+        let lower_word = lower[w];
         let pane = pane_of(upper_word, lower_word, upper_left, lower_left);
         let changes = changes_in(pane);
         trial = try_changes(

@@ -1,15 +1,16 @@
 -- `bands::band_first_report` meets its contract: a band that does not fit is refused, and the room of one that does is that of its two levels. Assumes nothing.
 use mathlib.Core.Path.{ap}
 use Rattle.std.specs.Prelude.{Ok}
+use Rattle.grid.proofs.Laws.{a-grid-that-fits-is-sized}
 use Rattle.scan.specs.Report.{report_for}
 use Rattle.bands.specs.Bands.{band_first_report}
 use Rattle.bands.proofs.Fit.{paired, pair-refused}
 use Rattle.error.proofs.Passing.{passed-on}
 use Rattle.bands.proofs.band_first_report.Goals as goal
 
-pub room_of-requires : goal.room_of-requires
-room_of-requires c =
-    (paired _ _ _ c.args.k c.args.thresholds.now c.args.rule _ _ c.in_ok-levels.was c.band_pair.ensures).grid
+pub invariant_of-room_of : goal.invariant_of-room_of
+invariant_of-room_of c =
+    record { sized = a-grid-that-fits-is-sized _ _ _ (paired _ _ _ c.args.k c.args.thresholds.now c.args.rule _ _ c.in_ok-levels.was c.band_pair.ensures).grid }
 
 pub returns-in_err-levels : goal.returns-in_err-levels
 unfolding band_first_report report_for

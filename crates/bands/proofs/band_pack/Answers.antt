@@ -18,16 +18,11 @@ returns-then-directory-rings c = directory-short _ _ _ _ _ _ _ _ (omega arith) (
 pub overflow_cast-dx : goal.overflow_cast-dx
 unfolding side_limit
 overflow_cast-dx c =
-    omega (arith, c.requires.0.columns)
+    omega (arith, c.args.grid.sized.columns)
 
 pub write_behind-requires : goal.write_behind-requires
 unfolding band_point_words
 write_behind-requires c = search rules
-
-pub overflow_cast-dx-2 : goal.overflow_cast-dx-2
-unfolding side_limit
-overflow_cast-dx-2 c =
-    omega (arith, c.requires.0.columns)
 
 pub returns : goal.returns
 unfolding band_directory_words directory_words record_stride

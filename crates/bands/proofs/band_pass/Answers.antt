@@ -2,16 +2,11 @@
 -- Assumes nothing.
 use native.Mathlib.Omega.{arith}
 use Rattle.scan.specs.Scanned.{scanned}
-use Rattle.grid.proofs.Laws.{a-grid-that-fits-is-sized}
 use Rattle.bands.proofs.Passes.{open-need, link-need, lines-short, links-short, done}
 use Rattle.bands.proofs.band_pass.Goals as goal
 
-pub invariant_of-grid : goal.invariant_of-grid
-invariant_of-grid c = record { sized = a-grid-that-fits-is-sized _ _ _ c.requires.0 }
-
 pub open_words-requires : goal.open_words-requires
-open_words-requires c =
-    (a-grid-that-fits-is-sized _ _ _ c.requires.0).columns
+open_words-requires c = c.args.grid.sized.columns
 
 pub returns-then-lines-open_words : goal.returns-then-lines-open_words
 returns-then-lines-open_words c =
@@ -30,6 +25,6 @@ returns c =
     let need = open-need _ _ _ _ _ c.scan-below.ensures.value c.scan-above.ensures.value c.open_words.ensures c.max-peak.ensures in
     let most = link-need _ _ _ _ _ c.scan-below.ensures.value c.scan-above.ensures.value c.link_words.ensures c.max.ensures in
     rw (c.max-peak.ensures, c.scan-below.ensures.value, c.scan-above.ensures.value)
-    (done c.args.values.now c.args.lower c.args.upper c.args.dx c.args.dy c.args.lines.now c.args.links.now _
+    (done c.args.grid.values.now c.args.levels.lower c.args.levels.upper c.args.grid.dx c.args.grid.dy c.args.lines.now c.args.links.now _
     c.scan-below.ensures.marked (omega (arith, need, c.if-lines-open_words.false)) (omega (arith, most, c.if-links-link_words.false))
-    (a-grid-that-fits-is-sized _ _ _ c.requires.0) _ _ _ _ _ _ c.stitch-first.ensures c.stitch-second.ensures)
+    c.args.grid.sized _ _ _ _ _ _ c.stitch-first.ensures c.stitch-second.ensures)

@@ -2,33 +2,28 @@
 -- tables are cleared. Assumes nothing.
 use mathlib.Core.Path.{refl}
 use native.Mathlib.Omega.{arith}
-use Rattle.grid.proofs.Laws.{a-grid-that-fits-is-sized}
 use Rattle.bands.proofs.Reports.{band-done, report-refused, counts-fit, report-done}
 use Rattle.error.proofs.Passing.{passed-on}
 use Rattle.bands.proofs.report_over.Goals as goal
 
-pub band_pass-requires : goal.band_pass-requires
-band_pass-requires c = (c.requires, refl)
-
 pub overflow_add-rings : goal.overflow_add-rings
 overflow_add-rings c =
     let facts = band-done _ _ _ _ _ _ _ _ _ c.in_ok-drawing.was _ _ _ c.band_pass.ensures in
-    omega (arith, (counts-fit _ _ _ _ _ _ _ (a-grid-that-fits-is-sized _ _ _ c.requires) facts).0)
+    omega (arith, (counts-fit _ _ _ _ _ _ _ c.args.grid.sized facts).0)
 
 pub overflow_add-points : goal.overflow_add-points
 overflow_add-points c =
     let facts = band-done _ _ _ _ _ _ _ _ _ c.in_ok-drawing.was _ _ _ c.band_pass.ensures in
-    omega (arith, (counts-fit _ _ _ _ _ _ _ (a-grid-that-fits-is-sized _ _ _ c.requires) facts).1)
+    omega (arith, (counts-fit _ _ _ _ _ _ _ c.args.grid.sized facts).1)
 
 pub overflow_add-points-2 : goal.overflow_add-points-2
 overflow_add-points-2 c =
     let facts = band-done _ _ _ _ _ _ _ _ _ c.in_ok-drawing.was _ _ _ c.band_pass.ensures in
-    let fit = counts-fit _ _ _ _ _ _ _ (a-grid-that-fits-is-sized _ _ _ c.requires) facts in
+    let fit = counts-fit _ _ _ _ _ _ _ c.args.grid.sized facts in
     omega (arith, fit.0, fit.1)
 
 pub open_words-requires : goal.open_words-requires
-open_words-requires c =
-    (a-grid-that-fits-is-sized _ _ _ c.requires).columns
+open_words-requires c = c.args.grid.sized.columns
 
 pub returns-in_err-drawing : goal.returns-in_err-drawing
 returns-in_err-drawing c =
@@ -37,5 +32,5 @@ returns-in_err-drawing c =
 pub returns : goal.returns
 returns c =
     let facts = band-done _ _ _ _ _ _ _ _ _ c.in_ok-drawing.was _ _ _ c.band_pass.ensures in
-    report-done _ _ _ _ _ _ _ (a-grid-that-fits-is-sized _ _ _ c.requires) facts _ _ _ c.max-segments.ensures refl refl _ _
+    report-done _ _ _ _ _ _ _ c.args.grid.sized facts _ _ _ c.max-segments.ensures refl refl _ _
     (rw (← c.open_words.ensures) c.clear.ensures) (rw (← c.link_words.ensures) c.clear-2.ensures)

@@ -1,30 +1,23 @@
 -- `contourbuilder::band_over` meets its contract: refused passes have changed nothing, and after passes that were done the outputs are what packing leaves, with
 -- the owners found, and both work tables are cleared. Assumes nothing.
-use mathlib.Core.Path.{refl}
 use native.Mathlib.Omega.{arith}
-use Rattle.grid.proofs.Laws.{a-grid-that-fits-is-sized}
 use Rattle.bands.proofs.Reports.{band-done, counts-fit}
 use Rattle.contourbuilder.proofs.Banded.{isobands-refused, band-ownable, isobands-done}
 use Rattle.error.proofs.Passing.{passed-on}
 use Rattle.contourbuilder.proofs.band_over.Goals as goal
 
-pub band_pass-requires : goal.band_pass-requires
-band_pass-requires c = (c.requires, refl)
-
 pub band_pack-answer-requires : goal.band_pack-answer-requires
 band_pack-answer-requires c =
-    let sized = a-grid-that-fits-is-sized _ _ _ c.requires in
     let facts = band-done _ _ _ _ _ _ _ _ _ c.in_ok-drawing.was _ _ _ c.band_pass.ensures in
-    (sized, c.band_pass.ensures.lower-marked, omega (arith, (counts-fit _ _ _ _ _ _ _ sized facts).0))
+    (c.band_pass.ensures.lower-marked, omega (arith, (counts-fit _ _ _ _ _ _ _ c.args.grid.sized facts).0))
 
 pub own_rings-requires : goal.own_rings-requires
 own_rings-requires c =
     let facts = band-done _ _ _ _ _ _ _ _ _ c.in_ok-drawing.was _ _ _ c.band_pass.ensures in
-    band-ownable _ _ _ _ _ _ _ (a-grid-that-fits-is-sized _ _ _ c.requires) facts _ _ _ _ _ _ _ c.band_pack-answer.ensures _ c.band_point_words-filled.ensures _ _ c.link_words-words.ensures c.max-segments.ensures
+    band-ownable _ _ _ _ _ _ _ c.args.grid.sized facts _ _ _ _ _ _ _ c.band_pack-answer.ensures _ c.band_point_words-filled.ensures _ _ c.link_words-words.ensures c.max-segments.ensures
 
 pub open_words-requires : goal.open_words-requires
-open_words-requires c =
-    (a-grid-that-fits-is-sized _ _ _ c.requires).columns
+open_words-requires c = c.args.grid.sized.columns
 
 pub returns-in_err-drawing : goal.returns-in_err-drawing
 returns-in_err-drawing c =
@@ -33,5 +26,5 @@ returns-in_err-drawing c =
 pub returns : goal.returns
 returns c =
     let facts = band-done _ _ _ _ _ _ _ _ _ c.in_ok-drawing.was _ _ _ c.band_pass.ensures in
-    isobands-done _ _ _ _ _ _ _ (a-grid-that-fits-is-sized _ _ _ c.requires) facts _ _ _ _ _ _ _ c.band_pack-answer.ensures _ c.band_point_words-filled.ensures _ _ c.link_words-words.ensures c.max-segments.ensures _ _
+    isobands-done _ _ _ _ _ _ _ c.args.grid.sized facts _ _ _ _ _ _ _ c.band_pack-answer.ensures _ c.band_point_words-filled.ensures _ _ c.link_words-words.ensures c.max-segments.ensures _ _
     c.own_rings.ensures _ _ (rw (← c.open_words.ensures) c.clear.ensures) c.clear-2.ensures

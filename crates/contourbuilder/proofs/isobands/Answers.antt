@@ -1,13 +1,14 @@
 -- `contourbuilder::isobands` meets its contract: a band that does not fit is refused with nothing changed, and one that does is built between its two levels.
 -- Assumes nothing.
+use Rattle.grid.proofs.Laws.{a-grid-that-fits-is-sized}
 use Rattle.bands.proofs.Fit.{paired, pair-refused}
 use Rattle.contourbuilder.proofs.Banded.{isobands-unfit}
 use Rattle.error.proofs.Passing.{passed-on}
 use Rattle.contourbuilder.proofs.isobands.Goals as goal
 
-pub band_over-requires : goal.band_over-requires
-band_over-requires c =
-    (paired _ _ _ c.args.k c.args.thresholds.now c.args.rule _ _ c.in_ok-levels.was c.band_pair.ensures).grid
+pub invariant_of-band_over : goal.invariant_of-band_over
+invariant_of-band_over c =
+    record { sized = a-grid-that-fits-is-sized _ _ _ (paired _ _ _ c.args.k c.args.thresholds.now c.args.rule _ _ c.in_ok-levels.was c.band_pair.ensures).grid }
 
 pub returns-in_err-levels : goal.returns-in_err-levels
 returns-in_err-levels c =

@@ -4,7 +4,7 @@ use mathlib.Core.Path.{sym, ap, ◌∙◌}
 use Rattle.scope.specs.Containment.{outside, boundary, inside}
 use Rattle.area.specs.Points.{meant}
 use Rattle.extents.specs.Points.{point_in}
-use Rattle.taking.specs.Places.{place_of}
+use Rattle.area.specs.Answers.{place_of}
 use Rattle.taking.proofs.Walks.{placed}
 use Rattle.deciding.proofs.Laws.{left-begin, left-next, left-inside, left-outside, left-none, in-first-row, by-neighbours}
 use Rattle.deciding.proofs.decide.Goals as goal

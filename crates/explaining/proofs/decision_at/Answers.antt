@@ -4,17 +4,19 @@ use Rattle.explaining.proofs.decision_at.Goals as goal
 
 pub decide-requires : goal.decide-requires
 decide-requires c =
-    rw (c.record_at-about.ensures.0, c.record_at-about.ensures.1, c.record_at-ring.ensures.0, c.record_at-ring.ensures.1)
-    (ring-closes c.requires.0, ring-lies c.requires.1)
+    let checked = c.args.set.checked in
+    rw (c.span_at-outer_span.ensures.0, c.span_at-outer_span.ensures.1, c.span_at-span.ensures.0, c.span_at-span.ensures.1)
+    (ring-closes (record { passes = checked; there = c.requires.0 }), ring-lies (record { passes = checked; there = c.requires.1 }))
 
 pub returns : goal.returns
 returns c =
+    let checked = c.args.set.checked in
     rw (
       c.decide.ensures,
-      c.record_at-about.ensures.0,
-      c.record_at-about.ensures.1,
-      c.record_at-ring.ensures.0,
-      c.record_at-ring.ensures.1,
-      ring-is c.requires.0,
-      ring-is c.requires.1,
+      c.span_at-outer_span.ensures.0,
+      c.span_at-outer_span.ensures.1,
+      c.span_at-span.ensures.0,
+      c.span_at-span.ensures.1,
+      ring-is (record { passes = checked; there = c.requires.0 }),
+      ring-is (record { passes = checked; there = c.requires.1 }),
     )

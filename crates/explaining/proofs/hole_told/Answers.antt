@@ -1,5 +1,4 @@
--- `explaining::hole_told` meets its contract. The loop's invariant is `Sought`: the rings that are not passed give the owner that all do. The measure is how many
--- are left. Assumes nothing.
+-- `explaining::hole_told` meets its contract. The loop's invariant is `Sought`: the rings that are not passed give the owner that all do. Assumes nothing.
 use mathlib.Core.Path.{◌≡◌, sym, ap, ◌∙◌}
 use mathlib.Core.Bool.{Bool}
 use Rattle.scope.specs.Stitching.{Line}

@@ -10,7 +10,7 @@ use Rattle.explaining.proofs.polygon_at.Goals as goal
 
 pub area_at-area-requires : goal.area_at-area-requires
 area_at-area-requires c =
-    rw (c.record_at-ring.ensures.0, c.record_at-ring.ensures.1) (ring-within c.requires)
+    rw (c.span_at-span.ensures.0, c.span_at-span.ensures.1) (ring-within (record { passes = c.args.set.checked; there = c.requires }))
 
 pub returns : goal.returns
 unfolding is_polygon_by
@@ -20,7 +20,7 @@ returns c =
       same,
       above_zero c.area_at-area.result,
       c.area_at-area.ensures,
-      c.record_at-ring.ensures.0,
-      c.record_at-ring.ensures.1,
-      ring-is c.requires,
+      c.span_at-span.ensures.0,
+      c.span_at-span.ensures.1,
+      ring-is (record { passes = c.args.set.checked; there = c.requires }),
     )

@@ -3,20 +3,7 @@ use mathlib.Core.Path.{sym, ◌∙◌}
 use native.Mathlib.Omega.{arith}
 use Rattle.scope.specs.Limits.{side_limit}
 use Rattle.grid.proofs.Laws.{a-grid-that-fits-is-sized}
-use Rattle.explaining.specs.Vertices.{on_grid, vertex_answer}
-use Rattle.error.proofs.Passing.{passed-on}
-use Rattle.explaining.proofs.Checking.{check-passes, check-refuses}
 use Rattle.explaining.proofs.smoothed_vertex.Goals as goal
-
-pub returns-in_err-grid_fit : goal.returns-in_err-grid_fit
-unfolding vertex_answer on_grid
-returns-in_err-grid_fit c = rw (passed-on _ c.from_residual.ensures.1, sym c.grid_fit.ensures ∙ c.in_err-grid_fit.was)
-
-pub returns-in_err-checked : goal.returns-in_err-checked
-unfolding vertex_answer on_grid
-returns-in_err-checked c =
-    let no = check-refuses _ c.checked.ensures c.in_err-checked.was in
-    rw (passed-on _ c.from_residual-in_err-checked.ensures.1, sym c.grid_fit.ensures ∙ c.in_ok-grid_fit.was, no.number, no.refuses)
 
 pub overflow_cast-dx : goal.overflow_cast-dx
 unfolding side_limit
@@ -25,11 +12,3 @@ overflow_cast-dx c = omega (arith, a-grid-that-fits-is-sized _ _ _ (sym c.grid_f
 pub overflow_cast-dy : goal.overflow_cast-dy
 unfolding side_limit
 overflow_cast-dy c = omega (arith, a-grid-that-fits-is-sized _ _ _ (sym c.grid_fit.ensures ∙ c.in_ok-grid_fit.was))
-
-pub vertex_told-requires : goal.vertex_told-requires
-vertex_told-requires c = check-passes _ c.checked.ensures c.in_ok-checked.was
-
-pub returns : goal.returns
-unfolding vertex_answer on_grid
-returns c =
-    rw (sym c.grid_fit.ensures ∙ c.in_ok-grid_fit.was, check-passes _ c.checked.ensures c.in_ok-checked.was, c.vertex_told.ensures)

@@ -8,14 +8,14 @@ use Rattle.explaining.specs.Vertices.{vertex_of_ring}
 use Rattle.explaining.proofs.Rings.{ring-lies, ring-is, vertex-in}
 use Rattle.explaining.proofs.vertex_at.Goals as goal
 
-pub bounds-points-at : goal.bounds-points-at
-bounds-points-at c = omega (arith, (ring-lies c.requires.0).within)
+pub bounds-set-at : goal.bounds-set-at
+bounds-set-at c = omega (arith, (ring-lies (record { passes = c.args.set.checked; there = c.requires.0 })).within)
 
-pub bounds-points-at-2 : goal.bounds-points-at-2
-bounds-points-at-2 c = omega (arith, (ring-lies c.requires.0).within)
+pub bounds-set-at-2 : goal.bounds-set-at-2
+bounds-set-at-2 c = omega (arith, (ring-lies (record { passes = c.args.set.checked; there = c.requires.0 })).within)
 
 pub returns : goal.returns
 unfolding vertex_of_ring point_in
 returns c =
-    rw (c.wide-2.ensures, c.wide.ensures, c.record_at-record.ensures.0)
-    (sym (ap (λ (l : Line). get_or l c.args.vertex (record { x = 0; y = 0 })) (ring-is c.requires.0) ∙ vertex-in _ _ _ _ _ c.requires.1))
+    rw (c.from.ensures, c.from-2.ensures, c.record_at-record.ensures.0)
+    (sym (ap (λ (l : Line). get_or l c.args.vertex (record { x = 0; y = 0 })) (ring-is (record { passes = c.args.set.checked; there = c.requires.0 })) ∙ vertex-in _ _ _ _ _ c.requires.1))

@@ -4,4 +4,4 @@ use Rattle.geotext.proofs.Rings.{PointsLeft}
 use Rattle.geotext.proofs.put_points.Given as goal
 
 abbrev pub invariant-loop-left : goal.invariant-loop-left
-invariant-loop-left l = PointsLeft l.points l.first l.count l.back l.initial.text l.at l.text l.place l.left
+invariant-loop-left l = PointsLeft l.ring l.back l.initial.text l.at l.text l.place l.left

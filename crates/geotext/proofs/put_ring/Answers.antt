@@ -7,7 +7,7 @@ use lib.ListN.{length, set}
 use lib.Seq.{sets}
 use Rattle.scope.specs.Stitching.{Line}
 use Rattle.scope.specs.Area.{points}
-use Rattle.scope.specs.GeoJson.{words_in, ring_text, written_order}
+use Rattle.scope.specs.GeoJson.{ring_text, written_order}
 use Rattle.geotext.specs.Pieces.{point_texts}
 use Rattle.geotext.proofs.Runs.{Left, left-begin, left-as-long, left-room, left-next, left-ends, left-stored}
 use Rattle.geotext.proofs.Rings.{ring-spelled}
@@ -36,31 +36,31 @@ module _ (text : List ℕ) (at : ℕ) (ring : Line) (room : at + length (ring_te
 
 pub bounds-text-at : goal.bounds-text-at
 bounds-text-at c =
-    let ring = written_order c.args.back (points (words_in c.args.points.now c.args.first c.args.count)) in
-    omega (arith, (at-start c.args.text.now c.args.at ring c.requires.count_in_bounds_2).room)
+    let ring = written_order c.args.back (points c.args.ring.now) in
+    omega (arith, (at-start c.args.text.now c.args.at ring c.requires).room)
 
 pub put_points-end-requires : goal.put_points-end-requires
 put_points-end-requires c =
-    let ring = written_order c.args.back (points (words_in c.args.points.now c.args.first c.args.count)) in
-    record { count_in_bounds = c.requires.count_in_bounds; count_in_bounds_2 = points-room c.args.text.now c.args.at ring c.requires.count_in_bounds_2 }
+    let ring = written_order c.args.back (points c.args.ring.now) in
+    points-room c.args.text.now c.args.at ring c.requires
 
 pub bounds-text-end : goal.bounds-text-end
 bounds-text-end c =
-    let ring = written_order c.args.back (points (words_in c.args.points.now c.args.first c.args.count)) in
+    let ring = written_order c.args.back (points c.args.ring.now) in
     let d = c.put_points-end.ensures in
-    let s = at_bracket c.args.text.now c.args.at ring c.requires.count_in_bounds_2 d.value d.text_after in
+    let s = at_bracket c.args.text.now c.args.at ring c.requires d.value d.text_after in
     omega (arith, s.room)
 
 pub overflow_add-result : goal.overflow_add-result
 overflow_add-result c =
-    let ring = written_order c.args.back (points (words_in c.args.points.now c.args.first c.args.count)) in
+    let ring = written_order c.args.back (points c.args.ring.now) in
     let d = c.put_points-end.ensures in
-    let s = at_bracket c.args.text.now c.args.at ring c.requires.count_in_bounds_2 d.value d.text_after in
+    let s = at_bracket c.args.text.now c.args.at ring c.requires d.value d.text_after in
     omega (arith, s.room, left-as-long s)
 
 pub returns : goal.returns
 returns c =
-    let ring = written_order c.args.back (points (words_in c.args.points.now c.args.first c.args.count)) in
+    let ring = written_order c.args.back (points c.args.ring.now) in
     let d = c.put_points-end.ensures in
-    let s = at-end c.args.text.now c.args.at ring c.requires.count_in_bounds_2 d.value d.text_after in
+    let s = at-end c.args.text.now c.args.at ring c.requires d.value d.text_after in
     record { value = left-ends s; text_after = left-stored s }

@@ -7,16 +7,16 @@ use Rattle.linebuilder.proofs.Laws.{lines-refused, lines-done}
 use Rattle.error.proofs.Passing.{passed-on}
 use Rattle.linebuilder.proofs.contour_lines.Goals as goal
 
-pub overflow_cast-dx : goal.overflow_cast-dx
-overflow_cast-dx c =
+pub overflow_cast-asked : goal.overflow_cast-asked
+overflow_cast-asked c =
     omega (arith, columns-fit c.args.values.now c.args.level _ _ (done-facts _ _ _ _ _ _ _ _ c.in_ok-drawing.was _ _ c.run_pass.ensures).sized)
 
-pub overflow_cast-dy : goal.overflow_cast-dy
-overflow_cast-dy c =
+pub overflow_cast-asked-2 : goal.overflow_cast-asked-2
+overflow_cast-asked-2 c =
     omega (arith, rows_fit c.args.values.now c.args.level _ _ (done-facts _ _ _ _ _ _ _ _ c.in_ok-drawing.was _ _ c.run_pass.ensures).sized)
 
-pub plot-answer-requires : goal.plot-answer-requires
-plot-answer-requires c =
+pub invariant_of-asked : goal.invariant_of-asked
+invariant_of-asked c =
     omega (arith, columns-fit c.args.values.now c.args.level _ _ (done-facts _ _ _ _ _ _ _ _ c.in_ok-drawing.was _ _ c.run_pass.ensures).sized)
 
 pub open_words-requires : goal.open_words-requires

@@ -13,6 +13,6 @@ use Rattle.plotting.proofs.write_lines.Given as goal
 
 abbrev pub invariant-loop : goal.invariant-loop
 invariant-loop l = (l.count < 2 ^ 32) ×
-    PointsLeft (vertex_at l.smooth l.values l.level.threshold l.dx l.dy (placing_of l.placement) l.links) l.links l.initial.points l.head l.count l.points l.walk.first l.walk.k l.walk.at (l.count - l.counter) ×
-    ((a : ℤ) × (l.area ≡ twos_complement a) × RecordsLeft measured_words 6 l.dx l.links l.initial.directory l.head l.count l.directory l.walk.first l.walk.first_point l.walk.size a l.walk.k l.walk.record_at (l.count - l.counter)) ×
-    (point_of l.point ≡ start_point l.dx l.links l.walk.k)
+    PointsLeft (vertex_at l.plot.smooth l.plot.values.now l.plot.level.threshold l.plot.dx l.plot.dy (placing_of l.plot.placement) l.links) l.links l.initial.points l.head l.count l.points l.walk.first l.walk.k l.walk.at (l.count - l.counter) ×
+    ((a : ℤ) × (l.area ≡ twos_complement a) × RecordsLeft measured_words 6 l.plot.dx l.links l.initial.directory l.head l.count l.directory l.walk.first l.walk.first_point l.walk.size a l.walk.k l.walk.record_at (l.count - l.counter)) ×
+    (point_of l.point ≡ start_point l.plot.dx l.links l.walk.k)

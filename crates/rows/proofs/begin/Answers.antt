@@ -18,8 +18,8 @@ overflow_cast-dy c =
 
 pub returns-then-sides_fit : goal.returns-then-sides_fit
 returns-then-sides_fit c =
-    begun c.args.dx c.args.dy c.args.level (not-true _ (sym c.sides_fit.ensures ∙ c.if-sides_fit.true)) _ c.blank-state.ensures
+    begun c.args.dx c.args.dy c.args.level (not-true _ (sym c.sides_fit.ensures ∙ c.if-sides_fit.true)) _ c.blank.ensures
 
 pub returns : goal.returns
 returns c =
-    not-begun c.args.dx c.args.dy c.args.level (not-false _ (sym c.sides_fit.ensures ∙ c.if-sides_fit.false)) _ c.blank-state-2.ensures
+    not-begun c.args.dx c.args.dy c.args.level (not-false _ (sym c.sides_fit.ensures ∙ c.if-sides_fit.false)) _ c.blank-2.ensures

@@ -21,11 +21,11 @@ open_words-requires c =
     let stay = ap (λ (o : Outcome). o.state.dx) c.advance-step.ensures ∙ columns-stay c.args.state _ _ _ _ _ in
     omega (arith, stay, (end-within c.args.state.dx c.args.state.dy _ (sym (turn-tested _ _ _ c.sides_fit.ensures _) ∙ c.if-sides_fit-state.false)).0)
 
-pub returns-in-Ok : goal.returns-in-Ok
-returns-in-Ok c =
-    end-zeroes c.args.state _ _ _ _ (sym (turn-tested _ _ _ c.sides_fit.ensures _) ∙ c.if-sides_fit-state.false) _ c.advance-step.ensures _ c.in-Ok.is
-    _ _ (c.clear.ensures ∙ ap (cleared _) c.open_words.ensures) (c.clear-in-Ok.ensures ∙ ap (cleared _) c.link_words.ensures)
+pub returns-then-is_ok : goal.returns-then-is_ok
+returns-then-is_ok c =
+    end-zeroes c.args.state _ _ _ _ (sym (turn-tested _ _ _ c.sides_fit.ensures _) ∙ c.if-sides_fit-state.false) _ c.advance-step.ensures (sym c.is_ok.ensures.value ∙ c.if-is_ok.true)
+    _ _ (c.clear.ensures ∙ ap (cleared _) c.open_words.ensures) (c.clear-then-is_ok.ensures ∙ ap (cleared _) c.link_words.ensures)
 
-pub returns-in_default : goal.returns-in_default
-returns-in_default c =
-    end_refused c.args.state _ _ _ _ (sym (turn-tested _ _ _ c.sides_fit.ensures _) ∙ c.if-sides_fit-state.false) _ c.advance-step.ensures _ c.in_default.is
+pub returns-else-is_ok : goal.returns-else-is_ok
+returns-else-is_ok c =
+    end_refused c.args.state _ _ _ _ (sym (turn-tested _ _ _ c.sides_fit.ensures _) ∙ c.if-sides_fit-state.false) _ c.advance-step.ensures (sym c.is_ok.ensures.value ∙ c.if-is_ok.false)

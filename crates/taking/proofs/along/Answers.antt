@@ -3,7 +3,7 @@ use mathlib.Core.Path.{refl, sym, ap, ◌∙◌}
 use mathlib.Core.Bool.{xor}
 use Rattle.area.specs.Points.{meant}
 use Rattle.extents.specs.Points.{point_in}
-use Rattle.taking.specs.Places.{place_of}
+use Rattle.area.specs.Answers.{place_of}
 use Rattle.taking.proofs.Walks.{along-held, along-next, along-beside, along-end}
 use Rattle.taking.proofs.along.Goals as goal
 

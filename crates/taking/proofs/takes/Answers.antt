@@ -7,7 +7,7 @@ use Rattle.scope.specs.Containment.{outside, boundary, inside, signed, not_outsi
 use Rattle.scope.specs.Contour.{takes}
 use Rattle.area.specs.Points.{meant}
 use Rattle.extents.specs.Points.{point_in}
-use Rattle.taking.specs.Places.{place_of}
+use Rattle.area.specs.Answers.{place_of}
 use Rattle.taking.proofs.Walks.{passed-next, decided, none-decided, placed}
 use Rattle.taking.proofs.takes.Goals as goal
 

@@ -1,7 +1,7 @@
 -- `trying::try_row` meets its contract. The loop's invariant: what is tried is what the cells of the words so far come to, and the samples on the left of the
 -- next cell are known.  Assumes nothing.
+use mathlib.Core.Path.{refl}
 use native.Mathlib.Omega.{arith}
-use Rattle.scope.specs.Limits.{side_limit}
 use Rattle.sweep.proofs.Rows.{beside-begins, beside-next, pane-between}
 use Rattle.sweep.proofs.Steps.{row-begun, word_more, row-swept}
 use Rattle.trying.specs.Trying.{row_tried}
@@ -10,28 +10,11 @@ use Rattle.trying.proofs.try_row.Goals as goal
 pub loop-w-init : goal.loop-w-init
 loop-w-init c = (beside-begins _ _, row-begun _ _)
 
-pub overflow_mul-w : goal.overflow_mul-w
-unfolding side_limit
-overflow_mul-w c = omega arith
-
-pub row_word-upper_word-requires : goal.row_word-upper_word-requires
-unfolding side_limit
-row_word-upper_word-requires c = omega arith
-
-pub row_word-lower_word-requires : goal.row_word-lower_word-requires
-unfolding side_limit
-row_word-lower_word-requires c = omega arith
-
-pub overflow_cast-w : goal.overflow_cast-w
-unfolding side_limit
-overflow_cast-w c = omega arith
-
 pub try_changes-trial-requires : goal.try_changes-trial-requires
 try_changes-trial-requires c =
-    let upper-word = c.row_word-upper_word in
-    let lower_word = c.row_word-lower_word in record {
+    record {
       dx_le_side_limit = (c.requires, omega arith);
-      shows = pane-between _ _ c.loop-w.invariant.0 upper-word.ensures lower_word.ensures (omega arith) (omega arith)
+      shows = pane-between _ _ c.loop-w.invariant.0 refl refl (omega arith) (omega arith)
           c.pane_of-pane.ensures;
       changes_value = c.changes_in-changes.ensures;
     }
@@ -39,7 +22,7 @@ try_changes-trial-requires c =
 pub loop-w-preserved : goal.loop-w-preserved
 loop-w-preserved c =
     let so_far = c.loop-w.invariant in (
-      beside-next _ _ _ c.row_word-upper_word.ensures c.row_word-lower_word.ensures c.bit_at-upper_left.ensures c.bit_at-lower_left.ensures,
+      beside-next _ _ _ refl refl c.bit_at-upper_left.ensures c.bit_at-lower_left.ensures,
       word_more _ _ _ so_far.1 c.try_changes-trial.ensures,
     )
 

@@ -2,7 +2,7 @@
 use mathlib.Core.Path.{sym, ap, ◌∙◌}
 use Rattle.area.specs.Points.{meant}
 use Rattle.extents.specs.Points.{point_in}
-use Rattle.taking.specs.Places.{place_of}
+use Rattle.area.specs.Answers.{place_of}
 use Rattle.taking.proofs.Walks.{first-held, first-passed}
 use Rattle.taking.proofs.Passing.{ring-stretch}
 use Rattle.taking.proofs.Packed.against.Goals as goal

@@ -6,7 +6,7 @@ use Prim.Native.Nat.{◌/◌, ◌+◌}
 use native.Mathlib.Omega.{arith}
 use Rattle.scope.specs.Containment.{outside, boundary, inside, signed}
 use Rattle.extents.specs.Ladders.{Chunked}
-use Rattle.taking.specs.Places.{place_of}
+use Rattle.area.specs.Answers.{place_of}
 use Rattle.taking.proofs.Walks.{placed}
 use Rattle.taking.proofs.Passing.{first-chunked, gone_held, gone-next, gone-end}
 use Rattle.taking.proofs.Packed.along_near.Goals as goal
