@@ -31,6 +31,16 @@ pub fn is_soiled(record: RingRecord) -> bool {
     record == SOILED
 }
 
+// What a build answers that is lent the first `n` records, and the array.
+fn with_records<F: FnOnce(&mut [RingRecord]) -> Result<u32, Refusal>>(n: usize, build: F) -> Tried
+    requires room { n ≤ 128 }
+    requires callable { F.IsAlwaysCallable build }
+{
+    let mut records = [SOILED; ROOM];
+    let answer = build(&mut records[..n]);
+    Tried { answer, records }
+}
+
 // The bare rings.
 pub fn try_rings(
     values: &[f64],
@@ -45,19 +55,11 @@ pub fn try_rings(
 ) -> Tried
     requires { n ≤ 128 }
 {
-    let mut records = [SOILED; ROOM];
-    let answer = ring_records(
-        values,
-        level,
-        dx,
-        dy,
-        lines,
-        links,
-        points,
-        directory,
-        &mut records[..n],
-    );
-    Tried { answer, records }
+    with_records(n, |records| {
+        ring_records(
+            values, level, dx, dy, lines, links, points, directory, records,
+        )
+    })
 }
 
 // A contour.
@@ -74,19 +76,11 @@ pub fn try_contour(
 ) -> Tried
     requires { n ≤ 128 }
 {
-    let mut records = [SOILED; ROOM];
-    let answer = contour_records(
-        values,
-        level,
-        dx,
-        dy,
-        lines,
-        links,
-        points,
-        directory,
-        &mut records[..n],
-    );
-    Tried { answer, records }
+    with_records(n, |records| {
+        contour_records(
+            values, level, dx, dy, lines, links, points, directory, records,
+        )
+    })
 }
 
 // A band.
@@ -105,21 +99,11 @@ pub fn try_band(
 ) -> Tried
     requires { n ≤ 128 }
 {
-    let mut records = [SOILED; ROOM];
-    let answer = isoband_records(
-        values,
-        thresholds,
-        rule,
-        k,
-        dx,
-        dy,
-        lines,
-        links,
-        points,
-        directory,
-        &mut records[..n],
-    );
-    Tried { answer, records }
+    with_records(n, |records| {
+        isoband_records(
+            values, thresholds, rule, k, dx, dy, lines, links, points, directory, records,
+        )
+    })
 }
 
 // The lines.
@@ -138,19 +122,9 @@ pub fn try_lines(
 ) -> Tried
     requires { n ≤ 128 }
 {
-    let mut records = [SOILED; ROOM];
-    let answer = line_records(
-        values,
-        level,
-        dx,
-        dy,
-        smooth,
-        placement,
-        lines,
-        links,
-        points,
-        directory,
-        &mut records[..n],
-    );
-    Tried { answer, records }
+    with_records(n, |records| {
+        line_records(
+            values, level, dx, dy, smooth, placement, lines, links, points, directory, records,
+        )
+    })
 }
