@@ -1,5 +1,5 @@
 -- What the contracts of the calls over records come to. Of the builds: one result on each entry, each refusal exactly where it is the lowest that applies, number 8
--- exactly where there are fewer records than rings or fewer words than four a ring, exact room filled to the last record, and records past the rings as they were;
+-- exactly where there are fewer records than rings or fewer words than six a ring, exact room filled to the last record, and records past the rings as they were;
 -- each is said once, for any word form that has these laws. Of the readers: the word form's answers at the words of the records, or number 9. Assumes nothing.
 use mathlib.Core.Path.{◌≡◌, refl, sym, ◌∙◌, ap}
 use mathlib.Core.Logic.Iff

@@ -11,11 +11,11 @@ unfoldable pub rings_in : Result ℕ Refusal → ℕ
 rings_in (Ok n) = n
 rings_in (Err why) = 0
 
--- a build is lent four words a record, as far as there are any
+-- a build is lent six words a record, as far as there are any
 unfoldable pub lent_words : ℕ → ℕ → ℕ
 lent_words words records = min words (directory_words records)
 
--- a reader is lent four words a ring where the rings' words were copied, and none otherwise
+-- a reader is lent six words a ring where the rings' words were copied, and none otherwise
 unfoldable pub read_words : ℕ → Bool → ℕ
 read_words rings copied = directory_words (cond copied rings 0)
 

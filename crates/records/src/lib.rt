@@ -24,7 +24,7 @@ use ringrecord::{records_from_words, words_from_records};
 use scope::{Level, Rule};
 use smoothing::Placement;
 
-// How many words the word form is lent, where there are so many words and records: four a record, as far as there are any.
+// How many words the word form is lent, where there are so many words and records: six a record, as far as there are any.
 #[tactic(auto, unfolding(crate::specs::Over::lent_words, scope::specs::Room::directory_words, scope::specs::Limits::record_stride))]
 fn lent_words(words: usize, records: usize) -> usize
     ensures { result ≡ lent_words words records }
@@ -44,7 +44,7 @@ fn rings_in(built: Result<u32, Refusal>) -> u32
 
 // Kept: the builds as four like functions, since of what a closure borrows and changes, here three of the tables, nothing is known after its call.
 
-// contour_rings, with a record a ring beside its words. Number 8 is given exactly where there are fewer records than rings, or fewer words than four a ring; records
+// contour_rings, with a record a ring beside its words. Number 8 is given exactly where there are fewer records than rings, or fewer words than six a ring; records
 // past the rings and words past those lent stay.
 pub fn ring_records(
     values: &[f64],
@@ -173,7 +173,7 @@ pub fn isoband_records(
     built
 }
 
-// How many words a reader is lent: four a ring where the rings' words were copied, and none otherwise.
+// How many words a reader is lent: six a ring where the rings' words were copied, and none otherwise.
 // Kept: a flag and no `Option`, since `words_from_records` promises to answer whether it copied.
 #[tactic(auto, unfolding(crate::specs::Over::read_words, scope::specs::Room::directory_words, scope::specs::Limits::record_stride))]
 fn read_words(rings: u32, copied: bool) -> usize

@@ -1,5 +1,4 @@
--- `reading::read_rest` meets its contract. The loop's invariant is `Begun`: what is left gives what the whole does.
--- The measure is what is left of the length. Assumes nothing.
+-- `reading::read_rest` meets its contract. The loop's invariant is `Begun`: what is left gives what the whole does. Assumes nothing.
 use Rattle.reading.proofs.Places.{Begun}
 use Rattle.reading.proofs.read_rest.Given as goal
 

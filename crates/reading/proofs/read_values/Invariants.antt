@@ -1,5 +1,5 @@
 -- `reading::read_values` meets its contract. The loop's invariant is `Walked`: the numbers so far stand in the table, and they and what is left give what
--- the whole does. The measure is how many numbers are left. Assumes nothing.
+-- the whole does. Assumes nothing.
 use Rattle.reading.proofs.Walks.{Walked}
 use Rattle.reading.proofs.read_values.Given as goal
 
