@@ -33,13 +33,11 @@ fn lent_words(words: usize, records: usize) -> usize
 }
 
 // How many rings an answer gives.
+#[tactic(auto, unfolding(crate::specs::Over::rings_in))]
 fn rings_in(built: Result<u32, Refusal>) -> u32
     ensures { result ≡ rings_in built }
 {
-    match built {
-        Ok(n) => n,
-        Err(_) => 0,
-    }
+    built.unwrap_or(0)
 }
 
 // Kept: the builds as four like functions, since of what a closure borrows and changes, here three of the tables, nothing is known after its call.
