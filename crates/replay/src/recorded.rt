@@ -1,8 +1,6 @@
 // The builds by records, held to the same answers as those by words: as many of the first records as there are rings stand for the directory's words, and the others
 // are as they were. Each is run with as many records as rings, with more, with one fewer, and with a word fewer in the directory; and the set that a contour or a band
 // writes is read by records too.
-ghost use Rattle.std.specs.Prelude.{◌≤◌};
-
 use crate::areas::area_of;
 use crate::calls::{VALUES, case_holds, has_floats, level, outputs_hold, words_if, work_holds};
 use crate::cases::{
@@ -28,9 +26,7 @@ fn run_tried(
     floats: &mut [f64],
     directory: &mut [u32],
     n: usize,
-) -> Tried
-    requires { n ≤ 128 }
-{
+) -> Tried {
     let level = level(case);
     let List { rule, k, .. } = case.list;
     let Drawing { smooth, placement } = case.drawing;
@@ -93,9 +89,7 @@ fn tried_holds(
     thresholds: &[f64],
     records: &[u32],
     listed: &[u32],
-) -> bool
-    requires { n ≤ 128 }
-{
+) -> bool {
     let floating = has_floats(case.build);
     let mut lines = [SOIL; WORDS];
     let mut links = [SOIL; WORDS];

@@ -1,7 +1,6 @@
 // The builds by records, tried: each function lends the first `n` records of an array of its own, and hands the whole array back by value with the answer, so
 // that a program can look at every record. They only test, so all that is proved of a function is that it is safe and ends.
-ghost use Rattle.std.specs.Prelude.{◌≤◌};
-
+use crate::tables::front_mut;
 use error::Refusal;
 use records::{contour_records, isoband_records, line_records, ring_records};
 use ringrecord::{Fate, RingRecord};
@@ -33,11 +32,10 @@ pub fn is_soiled(record: RingRecord) -> bool {
 
 // What a build answers that is lent the first `n` records, and the array.
 fn with_records<F: FnOnce(&mut [RingRecord]) -> Result<u32, Refusal>>(n: usize, build: F) -> Tried
-    requires room { n ≤ 128 }
     requires callable { F.IsAlwaysCallable build }
 {
     let mut records = [SOILED; ROOM];
-    let answer = build(&mut records[..n]);
+    let answer = build(front_mut(&mut records, n));
     Tried { answer, records }
 }
 
@@ -52,9 +50,7 @@ pub fn try_rings(
     points: &mut [u16],
     directory: &mut [u32],
     n: usize,
-) -> Tried
-    requires { n ≤ 128 }
-{
+) -> Tried {
     with_records(n, |records| {
         ring_records(
             values, level, dx, dy, lines, links, points, directory, records,
@@ -73,9 +69,7 @@ pub fn try_contour(
     points: &mut [u16],
     directory: &mut [u32],
     n: usize,
-) -> Tried
-    requires { n ≤ 128 }
-{
+) -> Tried {
     with_records(n, |records| {
         contour_records(
             values, level, dx, dy, lines, links, points, directory, records,
@@ -96,9 +90,7 @@ pub fn try_band(
     points: &mut [u16],
     directory: &mut [u32],
     n: usize,
-) -> Tried
-    requires { n ≤ 128 }
-{
+) -> Tried {
     with_records(n, |records| {
         isoband_records(
             values, thresholds, rule, k, dx, dy, lines, links, points, directory, records,
@@ -119,9 +111,7 @@ pub fn try_lines(
     points: &mut [f64],
     directory: &mut [u32],
     n: usize,
-) -> Tried
-    requires { n ≤ 128 }
-{
+) -> Tried {
     with_records(n, |records| {
         line_records(
             values, level, dx, dy, smooth, placement, lines, links, points, directory, records,
