@@ -4,7 +4,7 @@
 const NO_AREA: u32 = 50000;
 
 // A word of all ones: the high word of an area below 0. That of any other is 0, since no area of a text takes more than one word.
-const ONES: u32 = 4294967295;
+const ONES: u32 = u32::MAX;
 
 // The low word of the area that a number of a text stands for.
 pub fn low_word(number: u32) -> u32 {

@@ -1,7 +1,6 @@
 // The readers over records, tried: one function lends the first `n` records of an array to the check, the length and the writer in turn, each with a directory of
 // its own, and hands their answers back. It only tests, so all that is proved of it is that it is safe and ends.
-ghost use Rattle.std.specs.Prelude.{◌≤◌};
-
+use crate::tables::front;
 use crate::tried::ROOM;
 use error::Refusal;
 use records::{record_set_faulty, record_text_length, write_record_text};
@@ -25,10 +24,8 @@ pub fn read_records(
     measured: &mut [u32],
     directory: &mut [u32],
     text: &mut [u8],
-) -> Answers
-    requires { n ≤ 128 }
-{
-    let lent = &records[..n];
+) -> Answers {
+    let lent = front(&records, n);
     let faulty = record_set_faulty(points, lent, rings, checked);
     let length = record_text_length(points, lent, rings, measured);
     let written = write_record_text(points, lent, rings, directory, text);

@@ -1,51 +1,17 @@
 // The builds by records, held to the same answers as those by words: as many of the first records as there are rings stand for the directory's words, and the others
 // are as they were. Each is run with as many records as rings, with more, with one fewer, and with a word fewer in the directory; and the set that a contour or a band
 // writes is read by records too.
-ghost use Rattle.std.specs.Prelude.{◌≤◌};
-
 use crate::areas::area_of;
-use crate::calls::{VALUES, case_holds, has_floats, level, outputs_hold, words_if, work_holds};
-use crate::cases::{
-    Build, Case, Drawing, Lending, List, Room, built_agrees, lent_room, short_refusal,
-};
+use crate::calls::{VALUES, case_holds, has_floats, outputs_hold, words_if, work_holds};
+use crate::cases::{Build, Case, Lending, Room, built_agrees, lent_room, short_refusal};
 use crate::tables::{FLOAT_SOIL, SOIL, SOILED, WORDS, after, floats_part, front, front_mut};
 use crate::text::NUMBERS;
 use crate::texts::set_holds;
-use crate::tried::{ROOM, Tried, is_soiled, try_band, try_contour, try_lines, try_rings};
+use crate::tried::{ROOM, is_soiled, run_tried};
 use error::Refusal;
 use lent::word;
 use limits::RECORD_STRIDE;
 use ringrecord::{RingRecord, class_word, owner_word};
-
-// The build by `n` records.
-fn run_tried(
-    case: Case,
-    grid: &[f64],
-    thresholds: &[f64],
-    lines: &mut [u32],
-    links: &mut [u32],
-    points: &mut [u16],
-    floats: &mut [f64],
-    directory: &mut [u32],
-    n: usize,
-) -> Tried
-    requires { n ≤ 128 }
-{
-    let level = level(case);
-    let List { rule, k, .. } = case.list;
-    let Drawing { smooth, placement } = case.drawing;
-    let Case { dx, dy, .. } = case;
-    match case.build {
-        Build::Rings => try_rings(grid, level, dx, dy, lines, links, points, directory, n),
-        Build::Contour => try_contour(grid, level, dx, dy, lines, links, points, directory, n),
-        Build::Band => try_band(
-            grid, thresholds, rule, k, dx, dy, lines, links, points, directory, n,
-        ),
-        Build::Lines => try_lines(
-            grid, level, dx, dy, smooth, placement, lines, links, floats, directory, n,
-        ),
-    }
-}
 
 // Whether a record, which is that of number k, stands for the six words that a directory begins with.
 fn same_record(record: RingRecord, k: u32, directory: &[u32]) -> bool {
@@ -93,10 +59,10 @@ fn tried_holds(
     thresholds: &[f64],
     records: &[u32],
     listed: &[u32],
-) -> bool
-    requires { n ≤ 128 }
-{
+) -> bool {
     let floating = has_floats(case.build);
+    let plain = words_if(!floating, room.worded);
+    let placed = words_if(floating, room.worded);
     let mut lines = [SOIL; WORDS];
     let mut links = [SOIL; WORDS];
     let mut points = [SOILED; WORDS];
@@ -108,25 +74,28 @@ fn tried_holds(
         thresholds,
         front_mut(&mut lines, room.open),
         front_mut(&mut links, room.linked),
-        front_mut(&mut points, words_if(!floating, room.worded)),
-        front_mut(&mut floats, words_if(floating, room.worded)),
+        front_mut(&mut points, plain),
+        front_mut(&mut floats, placed),
         front_mut(&mut directory, room.recorded),
         n,
     );
     let rings = case.counts.rings;
     built_agrees(tried.answer, rings, refusal)
         & records_hold(tried.records, rings_written(refusal, rings), records)
-        & work_holds(case.room, room, refusal, &lines, &links)
+        & work_holds(
+            case.room,
+            refusal,
+            front(&lines, room.open),
+            front(&links, room.linked),
+        )
         & outputs_hold(
             case.room,
-            room,
             refusal.is_none(),
-            floating,
             records,
             listed,
-            &points,
-            &floats,
-            &directory,
+            front(&points, plain),
+            front(&floats, placed),
+            front(&directory, room.recorded),
         )
 }
 

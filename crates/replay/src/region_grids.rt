@@ -19,8 +19,8 @@ fn regions_hold_at(line: &[u32], below: f64, rule: Rule) -> bool {
     let contour = after(pair, 2);
     let band = after_records(contour);
     let listed = after_records(band);
-    let lower = word(pair, 0) as f64 - below;
-    let upper = word(pair, 1) as f64 - below;
+    let lower = f64::from(word(pair, 0)) - below;
+    let upper = f64::from(word(pair, 1)) - below;
     let list = pair_of(lower, upper, rule);
     let contour_case = case_of(Build::Contour, line, counts_of(contour), list, PLAIN);
     let band_case = case_of(Build::Band, line, counts_of(band), list, PLAIN);

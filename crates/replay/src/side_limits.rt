@@ -3,7 +3,7 @@ use crate::calls::{PLACED, VALUES, case_holds, holds};
 use crate::cases::{Build, Case, Counts, Drawing, Lending, List, Room};
 use crate::grids::sized_case;
 use error::Refusal;
-use limits::RECORD_STRIDE;
+use limits::{LINE, NO_OWNER, RECORD_STRIDE};
 use scope::Rule;
 use smoothing::Placement;
 
@@ -64,7 +64,7 @@ fn second_pair() -> List {
 fn longest_record(build: Build) -> [u32; RECORD_STRIDE] {
     match build {
         Build::Contour | Build::Band => [0, 8195, 0, 0, 32764, 0],
-        _ => [0, 8195, 2, 4294967295, 32764, 0],
+        _ => [0, 8195, LINE, NO_OWNER, 32764, 0],
     }
 }
 

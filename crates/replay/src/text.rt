@@ -1,5 +1,6 @@
 // Standard input as numbers, a line at a time. Only digits, spaces and ends of lines are expected; a number of more than eight digits loses its front.
 use lent::{put, value_or};
+use limits::NO_OWNER;
 
 // How much text is read, and how many numbers a line may have.
 pub const TEXT: usize = 2097152;
@@ -20,7 +21,7 @@ fn appended(value: u32, digit: u8) -> u32 {
 
 // What a number stands for: itself, and 99999999 for the owner of a ring that has none.
 fn meant(value: u32) -> u32 {
-    if value == 99999999 { 4294967295 } else { value }
+    if value == 99999999 { NO_OWNER } else { value }
 }
 
 // Stores the numbers of the line that begins at a byte. Each ends with a space or the end of the line.
@@ -36,7 +37,7 @@ pub fn read_line(text: &[u8; TEXT], from: usize, numbers: &mut [u32; NUMBERS]) -
             count = count.wrapping_add(1);
             value = 0;
         }
-        if b == 10 {
+        if b == b'\n' {
             return Line {
                 count,
                 next: i.wrapping_add(1),

@@ -46,9 +46,7 @@ fn readers_answer(
     rings: u32,
     room: usize,
     bytes: usize,
-) -> Option<Result<u64, Refusal>>
-    requires { n ≤ 128 }
-{
+) -> Option<Result<u64, Refusal>> {
     let mut checked = [SOIL; WORDS];
     let mut measured = [SOIL; WORDS];
     let mut directory = [SOIL; WORDS];
@@ -65,9 +63,9 @@ fn readers_answer(
     );
     let copied = words.len();
     let agree = texts_agree(answers, &text, points, words, rings, bytes)
-        & words_hold(&checked, room, copied, words, 0)
-        & words_hold(&measured, room, copied, words, 0)
-        & words_hold(&directory, room, copied, words, 0);
+        & words_hold(front(&checked, room), copied, words, 0)
+        & words_hold(front(&measured, room), copied, words, 0)
+        & words_hold(front(&directory, room), copied, words, 0);
     if agree { Some(answers.written) } else { None }
 }
 
@@ -78,9 +76,7 @@ fn set_reads(
     records: [RingRecord; ROOM],
     n: usize,
     rings: u32,
-) -> bool
-    requires { n ≤ 128 }
-{
+) -> bool {
     let room = words.len();
     let bytes = geojson_length(points, words, rings).unwrap_or(0) as usize;
     let short = one_less_if(true, bytes);
@@ -104,9 +100,7 @@ fn short_set_refused(
     records: [RingRecord; ROOM],
     n: usize,
     rings: u32,
-) -> bool
-    requires { n ≤ 128 }
-{
+) -> bool {
     if n == 0 {
         return true;
     }
@@ -140,9 +134,7 @@ fn changed_answer(
     n: usize,
     rings: u32,
     record: RingRecord,
-) -> Option<Result<u64, Refusal>>
-    requires { n ≤ 128 }
-{
+) -> Option<Result<u64, Refusal>> {
     put_first(directory, record);
     let changed = with_first(records, record);
     let room = directory.len();
@@ -157,9 +149,7 @@ fn damaged_set_holds(
     records: [RingRecord; ROOM],
     n: usize,
     rings: u32,
-) -> bool
-    requires { n ≤ 128 }
-{
+) -> bool {
     if n == 0 {
         return true;
     }
@@ -185,9 +175,7 @@ fn area_answer(
     rings: u32,
     low: u32,
     high: u32,
-) -> Option<Result<u64, Refusal>>
-    requires { n ≤ 128 }
-{
+) -> Option<Result<u64, Refusal>> {
     let changed = RingRecord {
         area: area_of(low, high),
         ..records[0]
@@ -204,9 +192,7 @@ fn damaged_area_refused(
     records: [RingRecord; ROOM],
     n: usize,
     rings: u32,
-) -> bool
-    requires { n ≤ 128 }
-{
+) -> bool {
     if n == 0 {
         return true;
     }

@@ -1,21 +1,20 @@
-// The builds by records, tried: each function lends the first `n` records of an array of its own, and hands the whole array back by value with the answer, so
-// that a program can look at every record. They only test, so all that is proved of a function is that it is safe and ends.
-ghost use Rattle.std.specs.Prelude.{◌≤◌};
-
+// The builds by records, tried: one function lends the first `n` records of an array of its own, and hands the whole array back by value with the answer, so
+// that a program can look at every record. It only tests, so all that is proved of it is that it is safe and ends.
+use crate::calls::level;
+use crate::cases::{Build, Case, Drawing, List};
+use crate::tables::front_mut;
 use error::Refusal;
 use records::{contour_records, isoband_records, line_records, ring_records};
 use ringrecord::{Fate, RingRecord};
-use scope::{Level, Rule};
-use smoothing::Placement;
 
 // How many records the array has.
 pub const ROOM: usize = 128;
 
 // What every record holds before a build. None writes such a record: no hole has an owner of this number, and no ring an odd area.
 const SOILED: RingRecord = RingRecord {
-    first: 4294967295,
+    first: u32::MAX,
     count: 0,
-    fate: Fate::Hole(4294967295),
+    fate: Fate::Hole(u32::MAX),
     area: 1,
 };
 
@@ -31,100 +30,35 @@ pub fn is_soiled(record: RingRecord) -> bool {
     record == SOILED
 }
 
-// What a build answers that is lent the first `n` records, and the array.
-fn with_records<F: FnOnce(&mut [RingRecord]) -> Result<u32, Refusal>>(n: usize, build: F) -> Tried
-    requires room { n ≤ 128 }
-    requires callable { F.IsAlwaysCallable build }
-{
-    let mut records = [SOILED; ROOM];
-    let answer = build(&mut records[..n]);
-    Tried { answer, records }
-}
-
-// The bare rings.
-pub fn try_rings(
-    values: &[f64],
-    level: Level,
-    dx: usize,
-    dy: usize,
-    lines: &mut [u32],
-    links: &mut [u32],
-    points: &mut [u16],
-    directory: &mut [u32],
-    n: usize,
-) -> Tried
-    requires { n ≤ 128 }
-{
-    with_records(n, |records| {
-        ring_records(
-            values, level, dx, dy, lines, links, points, directory, records,
-        )
-    })
-}
-
-// A contour.
-pub fn try_contour(
-    values: &[f64],
-    level: Level,
-    dx: usize,
-    dy: usize,
-    lines: &mut [u32],
-    links: &mut [u32],
-    points: &mut [u16],
-    directory: &mut [u32],
-    n: usize,
-) -> Tried
-    requires { n ≤ 128 }
-{
-    with_records(n, |records| {
-        contour_records(
-            values, level, dx, dy, lines, links, points, directory, records,
-        )
-    })
-}
-
-// A band.
-pub fn try_band(
-    values: &[f64],
+// What a case's build answers that is lent the first `n` records, and the array. Only that of lines writes floats, and it writes no other points.
+pub fn run_tried(
+    case: Case,
+    grid: &[f64],
     thresholds: &[f64],
-    rule: Rule,
-    k: usize,
-    dx: usize,
-    dy: usize,
     lines: &mut [u32],
     links: &mut [u32],
     points: &mut [u16],
+    floats: &mut [f64],
     directory: &mut [u32],
     n: usize,
-) -> Tried
-    requires { n ≤ 128 }
-{
-    with_records(n, |records| {
-        isoband_records(
-            values, thresholds, rule, k, dx, dy, lines, links, points, directory, records,
-        )
-    })
-}
-
-// The lines.
-pub fn try_lines(
-    values: &[f64],
-    level: Level,
-    dx: usize,
-    dy: usize,
-    smooth: bool,
-    placement: Placement,
-    lines: &mut [u32],
-    links: &mut [u32],
-    points: &mut [f64],
-    directory: &mut [u32],
-    n: usize,
-) -> Tried
-    requires { n ≤ 128 }
-{
-    with_records(n, |records| {
-        line_records(
-            values, level, dx, dy, smooth, placement, lines, links, points, directory, records,
-        )
-    })
+) -> Tried {
+    let level = level(case);
+    let List { rule, k, .. } = case.list;
+    let Drawing { smooth, placement } = case.drawing;
+    let Case { dx, dy, .. } = case;
+    let mut records = [SOILED; ROOM];
+    let lent = front_mut(&mut records, n);
+    let answer = match case.build {
+        Build::Rings => ring_records(grid, level, dx, dy, lines, links, points, directory, lent),
+        Build::Contour => contour_records(
+            grid, level, dx, dy, lines, links, points, directory, lent,
+        ),
+        Build::Band => isoband_records(
+            grid, thresholds, rule, k, dx, dy, lines, links, points, directory, lent,
+        ),
+        Build::Lines => line_records(
+            grid, level, dx, dy, smooth, placement, lines, links, floats, directory, lent,
+        ),
+    };
+    Tried { answer, records }
 }
