@@ -190,27 +190,48 @@ fn is_spent(refusal: Option<Refusal>) -> bool {
 
 // Whether the work tables that were lent are as a call that is refused so leaves them where it needs this room: untouched after refusals 1 to 6, and else zero in
 // these words.
-pub fn work_holds(need: Room, refusal: Option<Refusal>, lines: &[u32], links: &[u32]) -> bool {
+pub fn work_holds(
+    need: Room,
+    room: Room,
+    refusal: Option<Refusal>,
+    lines: &[u32; WORDS],
+    links: &[u32; WORDS],
+) -> bool {
     let none = [0u32; 0];
     let is_spent = is_spent(refusal);
-    words_hold(lines, words_if(is_spent, need.open), &none, 0)
-        & words_hold(links, words_if(is_spent, need.linked), &none, 0)
+    words_hold(lines, room.open, words_if(is_spent, need.open), &none, 0)
+        & words_hold(
+            links,
+            room.linked,
+            words_if(is_spent, need.linked),
+            &none,
+            0,
+        )
 }
 
-// Whether the points and the directory that were lent are as a build leaves them that passes, or is refused, where it needs this room.
+// Whether points and directory are as a build leaves them that passes, or is refused, where it needs this room.
 pub fn outputs_hold(
     need: Room,
+    room: Room,
     passes: bool,
+    floating: bool,
     records: &[u32],
     listed: &[u32],
-    points: &[u16],
-    floats: &[f64],
-    directory: &[u32],
+    points: &[u16; WORDS],
+    floats: &[f64; WORDS],
+    directory: &[u32; WORDS],
 ) -> bool {
     let worded = words_if(passes, need.worded);
-    words_hold(directory, words_if(passes, need.recorded), records, 0)
-        & points_hold(points, worded, listed)
-        & floats_hold(floats, worded, listed, PLACED)
+    let plain = words_if(!floating, room.worded);
+    let placed = words_if(floating, room.worded);
+    words_hold(
+        directory,
+        room.recorded,
+        words_if(passes, need.recorded),
+        records,
+        0,
+    ) & points_hold(points, plain, worded, listed)
+        & floats_hold(floats, placed, worded, listed, PLACED)
 }
 
 // Whether the second report passes, or is refused so, in work tables that are lent this room, and leaves them as it should.
@@ -231,12 +252,7 @@ fn second_holds(
         front_mut(&mut links, room.linked),
     );
     second_agrees(report, case.counts, refusal)
-        & work_holds(
-            case.room,
-            refusal,
-            front(&lines, room.open),
-            front(&links, room.linked),
-        )
+        & work_holds(case.room, room, refusal, &lines, &links)
 }
 
 // Whether the build passes, or is refused so, in tables that are lent this room, and leaves them as it should.
@@ -250,8 +266,6 @@ fn build_holds(
     listed: &[u32],
 ) -> bool {
     let floating = has_floats(case.build);
-    let plain = words_if(!floating, room.worded);
-    let placed = words_if(floating, room.worded);
     let mut lines = [SOIL; WORDS];
     let mut links = [SOIL; WORDS];
     let mut points = [SOILED; WORDS];
@@ -263,25 +277,22 @@ fn build_holds(
         thresholds,
         front_mut(&mut lines, room.open),
         front_mut(&mut links, room.linked),
-        front_mut(&mut points, plain),
-        front_mut(&mut floats, placed),
+        front_mut(&mut points, words_if(!floating, room.worded)),
+        front_mut(&mut floats, words_if(floating, room.worded)),
         front_mut(&mut directory, room.recorded),
     );
     built_agrees(built, case.counts.rings, refusal)
-        & work_holds(
-            case.room,
-            refusal,
-            front(&lines, room.open),
-            front(&links, room.linked),
-        )
+        & work_holds(case.room, room, refusal, &lines, &links)
         & outputs_hold(
             case.room,
+            room,
             refusal.is_none(),
+            floating,
             records,
             listed,
-            front(&points, plain),
-            front(&floats, placed),
-            front(&directory, room.recorded),
+            &points,
+            &floats,
+            &directory,
         )
 }
 

@@ -61,8 +61,6 @@ fn tried_holds(
     listed: &[u32],
 ) -> bool {
     let floating = has_floats(case.build);
-    let plain = words_if(!floating, room.worded);
-    let placed = words_if(floating, room.worded);
     let mut lines = [SOIL; WORDS];
     let mut links = [SOIL; WORDS];
     let mut points = [SOILED; WORDS];
@@ -74,28 +72,25 @@ fn tried_holds(
         thresholds,
         front_mut(&mut lines, room.open),
         front_mut(&mut links, room.linked),
-        front_mut(&mut points, plain),
-        front_mut(&mut floats, placed),
+        front_mut(&mut points, words_if(!floating, room.worded)),
+        front_mut(&mut floats, words_if(floating, room.worded)),
         front_mut(&mut directory, room.recorded),
         n,
     );
     let rings = case.counts.rings;
     built_agrees(tried.answer, rings, refusal)
         & records_hold(tried.records, rings_written(refusal, rings), records)
-        & work_holds(
-            case.room,
-            refusal,
-            front(&lines, room.open),
-            front(&links, room.linked),
-        )
+        & work_holds(case.room, room, refusal, &lines, &links)
         & outputs_hold(
             case.room,
+            room,
             refusal.is_none(),
+            floating,
             records,
             listed,
-            front(&points, plain),
-            front(&floats, placed),
-            front(&directory, room.recorded),
+            &points,
+            &floats,
+            &directory,
         )
 }
 

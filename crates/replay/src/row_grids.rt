@@ -4,7 +4,7 @@
 use crate::calls::VALUES;
 use crate::cases::{Case, SPARE};
 use crate::row_calls::{Answer, call_begin, climb, short_refused, turn_refused};
-use crate::tables::{SOIL, SOILED, WORDS, after, floats_part, front, points_hold, words_hold};
+use crate::tables::{SOIL, SOILED, WORDS, after, floats_part, points_hold, words_hold};
 use error::Refusal;
 use lent::{put, word};
 use limits::RECORD_STRIDE;
@@ -50,13 +50,13 @@ fn move_records(directory: &mut [u32; WORDS], rings: u32, by: u32) {
 // Whether the first words of the points are these many of the list, and those behind them soil.
 fn packed_hold(points: &[u16; WORDS], count: u32, listed: &[u32]) -> bool {
     let words = 2 * (count as usize);
-    points_hold(front(points, words + SPARE), words, listed)
+    points_hold(points, words + SPARE, words, listed)
 }
 
 // Whether the first records of a directory are these many of the list, and the words behind them soil.
 fn records_hold(directory: &[u32; WORDS], rings: u32, records: &[u32]) -> bool {
     let words = RECORD_STRIDE * (rings as usize);
-    words_hold(front(directory, words + SPARE), words, records, 0)
+    words_hold(directory, words + SPARE, words, records, 0)
 }
 
 // Whether a call has given out these many rings of the list, from this ring on. Behind the last ring of the list there are no points.
@@ -198,8 +198,7 @@ fn closed_hold(state: Rows, values: &[f64]) -> bool {
 // Whether the words of a work table that were used are zero, and no more than there is room for, and those behind them soil.
 fn spent_hold(table: &[u32; WORDS], room: usize, used: usize) -> bool {
     let none = [0u32; 0];
-    let lent = front(table, room.wrapping_add(SPARE));
-    (used <= room) & words_hold(lent, used, &none, 0)
+    (used <= room) & words_hold(table, room.wrapping_add(SPARE), used, &none, 0)
 }
 
 // Whether the run of a whole grid has given out all rings as expected, takes no call more, and has left the work tables as it should.

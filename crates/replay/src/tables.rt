@@ -100,24 +100,36 @@ fn is_float_wanted(x: f64, i: usize, written: usize, rest: &[u32], otherwise: f6
     }
 }
 
-// Whether of the words that were lent those that are written are as wanted, all one word where no more are listed, and the others soil.
-pub fn words_hold(lent: &[u32], written: usize, wanted: &[u32], otherwise: u32) -> bool {
-    (0..lent.len()).all(|i| is_wanted(word(lent, i), i, written, wanted, otherwise))
+// Whether of the first words of a table, as many as were lent, those that are written are as wanted, all one word where no more are listed, and the others soil.
+pub fn words_hold(
+    table: &[u32; WORDS],
+    lent: usize,
+    written: usize,
+    wanted: &[u32],
+    otherwise: u32,
+) -> bool {
+    (0..lent).all(|i| is_wanted(word(table, i), i, written, wanted, otherwise))
 }
 
 // The same of points. Those that are not listed are not looked at.
-pub fn points_hold(lent: &[u16], written: usize, wanted: &[u32]) -> bool {
-    (0..lent.len()).all(|i| {
-        let x = u32::from(value_or(lent, i, 0));
+pub fn points_hold(points: &[u16; WORDS], lent: usize, written: usize, wanted: &[u32]) -> bool {
+    (0..lent).all(|i| {
+        let x = u32::from(value_or(points, i, 0));
         is_wanted(x, i, written, wanted, x)
     })
 }
 
 // The same of floats, all one float where no more are listed.
-pub fn floats_hold(lent: &[f64], written: usize, wanted: &[u32], otherwise: f64) -> bool {
+pub fn floats_hold(
+    values: &[f64; WORDS],
+    lent: usize,
+    written: usize,
+    wanted: &[u32],
+    otherwise: f64,
+) -> bool {
     let mut rest = wanted;
-    for i in 0..lent.len() {
-        if !is_float_wanted(value_or(lent, i, 0.0), i, written, rest, otherwise) {
+    for i in 0..lent {
+        if !is_float_wanted(value_or(values, i, 0.0), i, written, rest, otherwise) {
             return false;
         }
         rest = after(rest, 4);

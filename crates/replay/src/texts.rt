@@ -63,9 +63,9 @@ fn readers_answer(
     );
     let copied = words.len();
     let agree = texts_agree(answers, &text, points, words, rings, bytes)
-        & words_hold(front(&checked, room), copied, words, 0)
-        & words_hold(front(&measured, room), copied, words, 0)
-        & words_hold(front(&directory, room), copied, words, 0);
+        & words_hold(&checked, room, copied, words, 0)
+        & words_hold(&measured, room, copied, words, 0)
+        & words_hold(&directory, room, copied, words, 0);
     if agree { Some(answers.written) } else { None }
 }
 
