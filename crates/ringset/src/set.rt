@@ -1,20 +1,18 @@
 // A ring set that was checked: its readers take it, and ask nothing more of the caller.
 
-ghost use Rattle.std.specs.Prelude.{◌≡◌, ℕ, ◌^◌, ◌<◌, true, false, slice_index, MatchResult};
+ghost use Rattle.std.specs.Prelude.{◌≡◌, true, false, MatchResult};
 ghost use Rattle.scope.specs.GeoJson.{ring_set_refused};
 
 use crate::ring_set_faulty;
 use error::Refusal;
 
-// Points and a directory of as many rings as are stated, such as number 9 does not refuse. That each word of the directory fits 32 bits is not known of a
-// slice in a field, so it stands here.
+// Points and a directory of as many rings as are stated, such as number 9 does not refuse.
 #[derive(Clone, Copy)]
 pub struct RingSet<'a> {
     pub points: &'a [u16],
     pub directory: &'a [u32],
     pub rings: u32,
     pub ghost checked: { ring_set_refused points.now directory.now rings ≡ false },
-    pub ghost words_fit: { (i : ℕ) → slice_index directory.now i < 2 ^ 32 },
 }
 
 impl<'a> RingSet<'a> {
