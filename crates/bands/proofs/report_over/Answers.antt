@@ -32,5 +32,5 @@ returns-in_err-drawing c =
 pub returns : goal.returns
 returns c =
     let facts = band-done _ _ _ _ _ _ _ _ _ c.in_ok-drawing.was _ _ _ c.band_pass.ensures in
-    report-done _ _ _ _ _ _ _ c.args.grid.sized facts _ _ _ c.max-segments.ensures refl refl _ _
+    report-done _ _ _ _ _ _ _ c.args.grid.sized facts _ _ _ (omega arith) refl refl _ _
     (rw (← c.open_words.ensures) c.clear.ensures) (rw (← c.link_words.ensures) c.clear-2.ensures)

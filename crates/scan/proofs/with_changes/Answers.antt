@@ -4,6 +4,7 @@ use mathlib.Core.Path.{sym, ◌∙◌, ap}
 use Prim.Native.Nat.{◌+◌}
 use native.Mathlib.Nat.{add-zero}
 use native.Mathlib.Omega.{arith}
+use Rattle.words.specs.Panes.{number_in}
 use Rattle.scan.specs.Scanned.{counts_after}
 use Rattle.scan.proofs.Samples.{terrain-outside}
 use Rattle.scan.proofs.Rows.{unseen-begin, unseen-next}
@@ -18,19 +19,24 @@ loop-j-init c = (
 )
 
 pub number_in-requires : goal.number_in-requires
-number_in-requires c = (unseen-next _ _ _ c.loop-j.invariant.1 c.in-Some.ensures.steps).in-word
+number_in-requires c = omega (arith, (unseen-next _ _ _ c.loop-j.invariant.1 c.in-Some.ensures.steps).in-word)
 
 pub with_cell-counts-requires : goal.with_cell-counts-requires
 with_cell-counts-requires c =
     let so_far = c.loop-j.invariant in
-    active-fits _ (terrain-outside _ _ _ _) c.requires.shows (unseen-next _ _ _ so_far.1 c.in-Some.ensures.steps) so_far.2
-    c.number_in.ensures c.args.grid.sized.columns (omega (arith, c.args.grid.sized.rows))
+    let next = unseen-next _ _ _ so_far.1 c.in-Some.ensures.steps in
+    active-fits _ (terrain-outside _ _ _ _) c.requires.shows next so_far.2
+    (c.number_in.ensures ∙ ap (number_in c.args.pane) (omega (arith, next.in-word))) c.args.grid.sized.columns (omega (arith, c.args.grid.sized.rows))
 
 pub loop-j-preserved : goal.loop-j-preserved
 loop-j-preserved c =
     let so_far = c.loop-j.invariant in
-    let next = unseen-next _ _ _ so_far.1 c.in-Some.ensures.steps in
-    (c.in-Some.j + 1, next.unseen-then, active-drawn _ (terrain-outside _ _ _ _) c.requires.shows next so_far.2 c.number_in.ensures c.with_cell-counts.ensures)
+    let next = unseen-next _ _ _ so_far.1 c.in-Some.ensures.steps in (
+      c.in-Some.j + 1,
+      next.unseen-then,
+      active-drawn _ (terrain-outside _ _ _ _) c.requires.shows next so_far.2
+          (c.number_in.ensures ∙ ap (number_in c.args.pane) (omega (arith, next.in-word))) c.with_cell-counts.ensures,
+    )
 
 pub returns : goal.returns
 returns c =

@@ -12,8 +12,11 @@ use Rattle.stitching.proofs.draw_changes.Goals as goal
 
 pub loop-j-init : goal.loop-j-init
 unfolding cells_drawn
-loop-j-init c =
-    (0, unseen-begin _ _ _ c.requires.shows c.requires.changes_value (c.into_iter-j-iterator.ensures.into_iter_gives ∙ c.set_bits-j-items.ensures), refl)
+loop-j-init c = (
+  0,
+  unseen-begin _ _ _ c.requires.shows (omega (arith, c.requires.changes_value)) (c.into_iter-j-iterator.ensures.into_iter_gives ∙ c.set_bits-j-items.ensures),
+  refl,
+)
 
 pub number_in-number-requires : goal.number_in-number-requires
 number_in-number-requires c = (unseen-next _ _ _ c.loop-j.invariant.1 c.in-Some.ensures.steps).in-word
