@@ -93,7 +93,9 @@ fn draw_input(input: &[u8], text: &mut [u8]) -> Option<u64>
     ensures { InputDrawn input.now text.old result text.new }
 {
     let mut values = [0.0f64; VALUES];
-    let grid = read_input(input, &mut values)?;
+    let Some(grid) = read_input(input, &mut values) else {
+        return None;
+    };
     let n = grid.dx * grid.dy;
     Some(write_contour(&values[..n], grid, text))
 }
