@@ -127,7 +127,8 @@
  * which are only read. A state and its work tables go from call to call, from one thread to another too.
  *
  * Stack. A call takes less than CONTOUR_STACK_BYTES of it, whatever the terrain; that is measured on the
- * compiled code and not proved. The largest frame has some 4,700 bytes, and no function calls itself.
+ * compiled code and not proved. The largest frame has some 4,700 bytes, and no function but the sort of
+ * records calls itself.
  */
 #ifndef CONTOUR_H
 #define CONTOUR_H
